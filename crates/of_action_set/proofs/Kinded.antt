@@ -1,20 +1,12 @@
 -- The kinds of actions that some bytes encode: 30 ranks.
 use Rattle.std.proofs.Common.{◌≡◌, ℕ, ◌≤◌, ◌<◌, ◌+◌, ◌++◌, Bool, true, false, not, cond, eqb, ltb, List, [], ◌∷◌, length, refl, sym, arith}
 use Rattle.std.specs.Prelude.{filter, find, map, Option, None}
-use Rattle.std.specs.List.{list_all}
-use Rattle.std.proofs.lemmas.Bool.Decides.{nat_tests, eqb_tells}
-use Rattle.std.proofs.lemmas.List.{append-nil}
-use Rattle.std.proofs.lemmas.List.Edits.{length-insert}
+use Rattle.std.{specs.List.list_all, proofs.lemmas.Bool.Decides.nat_tests, proofs.lemmas.Bool.Decides.eqb_tells, proofs.lemmas.List.append-nil, proofs.lemmas.List.Edits.length-insert}
+use Rattle.of_layers.specs.{declared.field.Field.Field, declared.field.Field.TheVariants.InPort, Fields.number_of, Fields.is_settable, Fields.row_of, Fields.all_fields}
 use Rattle.of_layers.proofs.Table.{number_below}
-use Rattle.of_layers.specs.declared.field.Field.{Field}
-use Rattle.of_layers.specs.declared.field.Field.TheVariants.{InPort}
-use Rattle.of_layers.specs.Fields.{number_of, is_settable, row_of, all_fields}
-use Rattle.of_actions.specs.declared.action.Action.{Action}
-use Rattle.of_actions.specs.declared.action.Action.TheVariants.{SetField}
-use Rattle.of_actions.specs.Supported.{is_supported}
-use Rattle.of_actions.specs.Rising.{is_ascending}
-use Rattle.of_action_set.specs.Sets.{rank, is_output}
+use Rattle.of_actions.specs.{declared.action.Action.Action, declared.action.Action.TheVariants.SetField, Supported.is_supported, Rising.is_ascending}
 use Rattle.of_action_set.proofs.Ranked.{is_in, at_most, below, but, put, rising_put, all_put, insert_is_put, length-filter_le}
+use Rattle.of_action_set.specs.Sets.{rank, is_output}
 
 -- tags and TTL, the fields that may be set, GROUP and OUTPUT
 abbrev pub ranks : List ℕ

@@ -2,11 +2,8 @@
 use Rattle.std.specs.Prelude.{ℕ, ◌+◌, ◌==◌, nat_lt, Bool, true, false, not, List, [], ◌∷◌, ◌++◌, Option, filter, find, if◌then◌else◌}
 use Rattle.std.specs.List.{list_any}
 use Rattle.of_layers.specs.Fields.{number_of}
-use Rattle.of_actions.specs.declared.action.Action.{Action}
-use Rattle.of_actions.specs.declared.action.Action.TheVariants.{Output, Group}
-use Rattle.of_actions.specs.declared.argument.Argument.{Argument}
-use Rattle.of_actions.specs.declared.argument.Argument.TheVariants.{Field}
-use Rattle.of_actions.specs.Rows.{said}
+use Rattle.of_actions.specs.{declared.action.Action.Action, declared.action.Action.TheVariants.Output, declared.action.Action.TheVariants.Group, declared.argument.Argument.Argument}
+use Rattle.of_actions.specs.{declared.argument.Argument.TheVariants.Field, Rows.said}
 
 -- a SET_FIELD of another field is of another kind
 abbrev pub field_place : Argument → ℕ

@@ -1,8 +1,7 @@
 -- Where a set keeps its actions. No public clause cites this module.
 use Rattle.std.specs.Prelude.{List, [], Option, Some, None}
 use Rattle.of_actions.specs.declared.action.Action.{Action}
-use Rattle.of_action_set.specs.declared.action_set.Stored.{Stored}
-use Rattle.of_action_set.specs.declared.action_set.Stored.TheVariants.{Few, All}
+use Rattle.of_action_set.specs.{declared.action_set.Stored.Stored, declared.action_set.Stored.TheVariants.Few, declared.action_set.Stored.TheVariants.All}
 
 abbrev pub items_in : Stored → List Action
 items_in (Few v) = v.items

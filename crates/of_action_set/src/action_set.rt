@@ -1,9 +1,7 @@
 //! Action sets.
 ghost use Rattle.std.specs.Prelude.{◌≡◌, ◌≤◌, ◌<◌, ◌==◌, [], ◌∷◌, true, false, not, length, filter, slice_get, slice_set, IsTrue};
-ghost use Rattle.std.specs.Option.{option_map_or};
-ghost use Rattle.std.specs.List.{list_all};
-ghost use Rattle.of_actions.specs.Supported.{is_supported};
-ghost use Rattle.of_actions.specs.Rising.{is_ascending};
+ghost use Rattle.std.specs.{Option.option_map_or, List.list_all};
+ghost use Rattle.of_actions.specs.{Supported.is_supported, Rising.is_ascending};
 ghost use Rattle.of_action_set.specs.Sets.{rank as rank_of, is_output as is_an_output, with_action, with_actions, in_order as run_order};
 ghost use Rattle.of_action_set.specs.Storage.{items_in};
 
@@ -35,13 +33,9 @@ pub struct ActionSet {
 }
 
 impl Model for ActionSet {
-    ghost use Rattle.std.specs.Prelude.{List, IsTrue, false};
-    ghost use Rattle.std.specs.List.{list_all};
-    ghost use Rattle.of_actions.specs.declared.action.Action.{Action};
-    ghost use Rattle.of_actions.specs.Supported.{is_supported};
-    ghost use Rattle.of_actions.specs.Rising.{is_ascending};
-    ghost use Rattle.of_action_set.specs.Sets.{rank};
-    ghost use Rattle.of_action_set.specs.Storage.{stored};
+    ghost use Rattle.std.specs.{Prelude.List, Prelude.IsTrue, Prelude.false, List.list_all};
+    ghost use Rattle.of_actions.specs.{declared.action.Action.Action, Supported.is_supported, Rising.is_ascending};
+    ghost use Rattle.of_action_set.specs.{Sets.rank, Storage.stored};
 
     ghost Value = { List Action };
 

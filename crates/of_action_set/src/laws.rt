@@ -1,9 +1,7 @@
 //! Laws of action sets.
 ghost use Rattle.std.specs.Prelude.{ℕ, ◌≡◌, ◌≤◌, ◌==◌, ◌&&◌, List, Some, None, false, length, IsTrue, if◌then◌else◌};
 ghost use Rattle.std.specs.List.{list_any, list_all};
-ghost use Rattle.of_actions.specs.declared.action.Action.{Action};
-ghost use Rattle.of_actions.specs.Supported.{is_supported};
-ghost use Rattle.of_actions.specs.Rising.{is_ascending};
+ghost use Rattle.of_actions.specs.{declared.action.Action.Action, Supported.is_supported, Rising.is_ascending};
 ghost use Rattle.of_action_set.specs.Sets.{rank, held_action, with_action, in_order, is_group};
 
 /// A set is a finite map from kinds to actions: a written action is that of its kind, those of other kinds stay, and two sets with the same action of each kind are one.

@@ -1,12 +1,7 @@
 -- Lists of supported actions.
 use Rattle.std.proofs.Common.{◌≡◌, ◌≤◌, ℕ, Bool, true, false, List, [], ◌∷◌, length, refl, arith}
-use Rattle.std.specs.Prelude.{nat_le, ◌&&◌}
-use Rattle.std.specs.List.{list_all}
-use Rattle.std.proofs.lemmas.Bool.Decides.{nat_tests}
-use Rattle.of_actions.specs.declared.action.Action.{Action}
-use Rattle.of_actions.specs.declared.action.Action.TheVariants.{Output}
-use Rattle.of_actions.specs.PortNumbers.{is_port}
-use Rattle.of_actions.specs.Supported.{is_supported, are_supported}
+use Rattle.std.{specs.Prelude.nat_le, specs.Prelude.◌&&◌, specs.List.list_all, proofs.lemmas.Bool.Decides.nat_tests}
+use Rattle.of_actions.specs.{declared.action.Action.Action, declared.action.Action.TheVariants.Output, PortNumbers.is_port, Supported.is_supported, Supported.are_supported}
 
 -- n actions, all of them supported
 pub record Supported (packet_out : Bool) (actions : List Action) : Type 0 where

@@ -1,26 +1,16 @@
 -- Actions that are written are read again, whatever follows.
 use Rattle.std.proofs.Common.{◌≡◌, ℕ, ◌+◌, ◌-◌, ◌*◌, ◌/◌, ◌%◌, ◌≤◌, Bool, true, false, ltb, eqb, List, [], ◌∷◌, ◌++◌, length, drop, replicate, Some, None, refl, sym, ap, ◌∙◌, arith}
-use Rattle.std.specs.Prelude.{slice_index, ⊤}
-use Rattle.std.specs.List.{list_all}
-use Rattle.std.proofs.lemmas.Bool.{le-ltb, eq-eqb}
-use Rattle.std.proofs.lemmas.Bool.Decides.{nat_tests}
+use Rattle.std.{specs.Prelude.slice_index, specs.Prelude.⊤, specs.List.list_all, proofs.lemmas.Bool.le-ltb, proofs.lemmas.Bool.eq-eqb, proofs.lemmas.Bool.Decides.nat_tests}
 use Rattle.std.proofs.lemmas.List.{append_assoc, length-append, length-replicate}
-use Rattle.byteorder.specs.Endian.{big_bytes, big_number}
-use Rattle.byteorder.specs.Numbers.{big_number-reads_back, length-bytes_high_first}
-use Rattle.of_wire.specs.Refusals.{first_of}
-use Rattle.of_wire.proofs.ItemsAgain.{Again, AllAgain, written_items}
-use Rattle.of_layers.specs.declared.field.Field.{Field}
+use Rattle.byteorder.specs.{Endian.big_bytes, Endian.big_number, Numbers.big_number-reads_back, Numbers.length-bytes_high_first}
+use Rattle.of_wire.{specs.Refusals.first_of, proofs.ItemsAgain.Again, proofs.ItemsAgain.AllAgain, proofs.ItemsAgain.written_items}
 use Rattle.of_layers.specs.Fields.{number_of, bytes_of, ones_of, is_settable, field_at}
-use Rattle.of_layers.proofs.Table.{field_at-number_of, bytes_some, bytes_most, value_below}
-use Rattle.of_actions.specs.declared.action.Action.{Action}
-use Rattle.of_actions.specs.declared.action.Action.TheVariants.{Output, PushVlan, SetField}
-use Rattle.of_actions.specs.Beginnings.{type_at, len_at}
-use Rattle.of_actions.specs.PortNumbers.{is_port}
+use Rattle.of_layers.{specs.declared.field.Field.Field, proofs.Table.field_at-number_of, proofs.Table.bytes_some, proofs.Table.bytes_most, proofs.Table.value_below}
 use Rattle.of_actions.specs.SetField.{settable, set_field_at, set_value_at, set_len, set_refusals}
-use Rattle.of_actions.specs.Supported.{is_supported, are_supported}
 use Rattle.of_actions.specs.Actions.{actions_of, AreActions, wire_action_refusals, type_refusals, action_at}
-use Rattle.of_actions.specs.CanonicalActions.{canonical_action, canonical_actions, canonical_set_field}
-use Rattle.of_actions.proofs.ActionLists.{is_served_list}
+use Rattle.of_actions.specs.{declared.action.Action.Action, declared.action.Action.TheVariants.Output, declared.action.Action.TheVariants.PushVlan, declared.action.Action.TheVariants.SetField}
+use Rattle.of_actions.specs.{Beginnings.type_at, Beginnings.len_at, PortNumbers.is_port, Supported.is_supported, Supported.are_supported}
+use Rattle.of_actions.{specs.CanonicalActions.canonical_action, specs.CanonicalActions.canonical_actions, specs.CanonicalActions.canonical_set_field, proofs.ActionLists.is_served_list}
 
 -- an action of a fixed size
 abbrev IsPlain : Action → Type 0

@@ -1,17 +1,10 @@
 -- What the grammar of actions says, computed.
 use Rattle.std.proofs.Common.{◌≡◌, ℕ, Bool, List, [], length, Option, Some, None, Result, Ok, Err, arith}
-use Rattle.std.specs.Prelude.{IfOk, IfErr}
-use Rattle.std.proofs.lemmas.Bool.{ltb-false}
-use Rattle.of_wire.specs.declared.code.Code.{Code}
-use Rattle.of_wire.specs.declared.code.ReadError.{ReadError}
+use Rattle.std.{specs.Prelude.IfOk, specs.Prelude.IfErr, proofs.lemmas.Bool.ltb-false}
+use Rattle.of_wire.specs.{declared.code.Code.Code, declared.code.ReadError.ReadError, Failures.Fails, Failures.Reads, Items.TakesBytes, Items.outcome}
+use Rattle.of_wire.proofs.{ItemsRead.items_are, FirstLemmas.none_applies, FirstLemmas.first_false}
 use Rattle.of_wire.specs.declared.code.ReadError.TheVariants as errors
-use Rattle.of_wire.specs.Failures.{Fails, Reads}
-use Rattle.of_wire.specs.Items.{TakesBytes, outcome}
-use Rattle.of_wire.proofs.ItemsRead.{items_are}
-use Rattle.of_wire.proofs.FirstLemmas.{none_applies, first_false}
-use Rattle.of_actions.specs.declared.action.Action.{Action}
-use Rattle.of_actions.specs.Beginnings.{len_at}
-use Rattle.of_actions.specs.Actions.{actions_of, wire_action_refusals, actions_said, AreActions}
+use Rattle.of_actions.specs.{declared.action.Action.Action, Beginnings.len_at, Actions.actions_of, Actions.wire_action_refusals, Actions.actions_said, Actions.AreActions}
 
 actions_take : (packet_out : Bool) → TakesBytes (actions_of packet_out)
 unfolding wire_action_refusals

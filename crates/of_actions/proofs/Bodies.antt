@@ -1,20 +1,12 @@
 -- Instructions, header by header.
 use Rattle.std.proofs.Common.{◌≡◌, ℕ, ◌+◌, ◌<◌, true, false, eqb, List, [], ◌∷◌, ◌++◌, length, get_or, drop, suc, Option, Some, None, refl, sym, ap, subst, ◌∙◌, arith, add-one, drop-cons}
-use Rattle.std.specs.List.{list_all}
-use Rattle.std.proofs.lemmas.Bool.Decides.{nat_tests}
-use Rattle.std.proofs.lemmas.List.{append-nil}
-use Rattle.std.proofs.Math.ListN.{drop_of_length-le}
-use Rattle.of_wire.specs.declared.code.Code.{Code}
-use Rattle.of_wire.specs.Numbered.{is_used, is_distinct}
-use Rattle.of_wire.proofs.Walking.{one_walk}
-use Rattle.of_actions.specs.declared.action.Action.{Action}
-use Rattle.of_actions.specs.declared.instruction.Instruction.{Instruction}
+use Rattle.std.{specs.List.list_all, proofs.lemmas.Bool.Decides.nat_tests, proofs.lemmas.List.append-nil, proofs.Math.ListN.drop_of_length-le}
+use Rattle.of_wire.{specs.declared.code.Code.Code, specs.Numbered.is_used, specs.Numbered.is_distinct, proofs.Walking.one_walk}
 use Rattle.of_actions.specs.declared.instruction.Instruction.TheVariants.{Apply, Clear, Write, Metadata, Goto}
-use Rattle.of_actions.specs.Actions.{actions_of}
-use Rattle.of_actions.specs.InstructionLists.{type_of_instruction, run_place, is_for, are_for}
 use Rattle.of_actions.specs.Headers.{Header, goto, metadata, write, apply, clear, kind_of}
-use Rattle.of_actions.specs.Unread.{leads_on}
 use Rattle.of_actions.specs.Instructions.{HasActions, HasFault, IsInstructionBody, IsFault, AreBodies}
+use Rattle.of_actions.specs.{declared.action.Action.Action, declared.instruction.Instruction.Instruction, Actions.actions_of}
+use Rattle.of_actions.specs.{InstructionLists.type_of_instruction, InstructionLists.run_place, InstructionLists.is_for, InstructionLists.are_for, Unread.leads_on}
 
 -- whatever the headers from this place on begin completes the whole
 pub record Reading (hs : List Header) (i : ℕ) (done : List Instruction) : Type 0 where

@@ -1,22 +1,14 @@
 -- What the grammar of instructions says, computed.
 use Rattle.std.proofs.Common.{◌≡◌, ℕ, false, List, [], ◌∷◌, length, Option, Some, None, Result, Ok, Err, refl, sym, ap, ◌∙◌, arith}
-use Rattle.std.specs.Prelude.{IfOk, IfErr}
-use Rattle.std.proofs.lemmas.Bool.{ltb-false}
-use Rattle.of_wire.specs.declared.code.Code.{Code}
-use Rattle.of_wire.specs.declared.code.ReadError.{ReadError}
+use Rattle.std.{specs.Prelude.IfOk, specs.Prelude.IfErr, proofs.lemmas.Bool.ltb-false}
+use Rattle.of_wire.specs.{declared.code.Code.Code, declared.code.ReadError.ReadError, Failures.Fails, Failures.Reads, Items.TakesBytes, Items.items_from, Items.outcome}
+use Rattle.of_wire.proofs.{ItemsRead.items_are, FirstLemmas.none_applies, FirstLemmas.first_false}
 use Rattle.of_wire.specs.declared.code.ReadError.TheVariants as errors
-use Rattle.of_wire.specs.Failures.{Fails, Reads}
-use Rattle.of_wire.specs.Items.{TakesBytes, items_from, outcome}
-use Rattle.of_wire.proofs.ItemsRead.{items_are}
-use Rattle.of_wire.proofs.FirstLemmas.{none_applies, first_false}
-use Rattle.of_actions.specs.declared.action.Action.{Action}
-use Rattle.of_actions.specs.declared.instruction.Instruction.{Instruction}
-use Rattle.of_actions.specs.declared.instruction.Instruction.TheVariants.{Apply, Write}
-use Rattle.of_actions.specs.Actions.{actions_said}
-use Rattle.of_actions.specs.Beginnings.{len_at}
 use Rattle.of_actions.specs.Headers.{Header, goto, metadata, write, apply, clear, headers_of, header_refusals, AreHeaders}
 use Rattle.of_actions.specs.Instructions.{HasActions, HasFault, IsInstructionBody, IsFault, AreBodies, EncodesInstructions, IsRefused}
 use Rattle.of_actions.specs.InstructionReading.{with_actions_read, instruction_of_header, instruction_prepended, bodies_of, then_bodies, then_ordered, instructions_in_bytes}
+use Rattle.of_actions.specs.{declared.action.Action.Action, declared.instruction.Instruction.Instruction}
+use Rattle.of_actions.specs.{declared.instruction.Instruction.TheVariants.Apply, declared.instruction.Instruction.TheVariants.Write, Actions.actions_said, Beginnings.len_at}
 use Rattle.of_actions.proofs.ActionsComputed.{actions_are}
 
 headers_take : (table : ℕ) → TakesBytes (headers_of table)

@@ -1,14 +1,9 @@
 -- Headers as far as they are read.
 use Rattle.std.proofs.Common.{◌≡◌, ℕ, ◌<◌, Bool, true, false, cond, eqb, List, [], ◌∷◌, ◌++◌, length, get_or, zero, suc, Option, Some, None, refl, sym, ap, subst, ◌∙◌, arith}
-use Rattle.std.specs.List.{list_all}
-use Rattle.std.proofs.lemmas.Bool.{eqb-true}
-use Rattle.std.proofs.lemmas.Bool.Decides.{nat_tests}
-use Rattle.std.proofs.lemmas.List.Folds.{list_all-append}
-use Rattle.of_wire.specs.Numbered.{is_used, is_distinct}
-use Rattle.of_wire.proofs.NumberedLemmas.{distinct-push}
-use Rattle.of_actions.specs.Beginnings.{type_at}
+use Rattle.std.{specs.List.list_all, proofs.lemmas.Bool.eqb-true, proofs.lemmas.Bool.Decides.nat_tests, proofs.lemmas.List.Folds.list_all-append}
+use Rattle.of_wire.{specs.Numbered.is_used, specs.Numbered.is_distinct, proofs.NumberedLemmas.distinct-push}
 use Rattle.of_actions.specs.Headers.{Header, goto, write, apply, clear, kind_of, header_at, goto_table_at, actions_at}
-use Rattle.of_actions.specs.Unread.{is_sound_header, leads_on}
+use Rattle.of_actions.specs.{Beginnings.type_at, Unread.is_sound_header, Unread.leads_on}
 
 -- no two are of one type, and each is fit for an entry of the table
 pub record Fine (table : ℕ) (headers : List Header) : Type 0 where

@@ -1,16 +1,10 @@
 -- Bytes encode one list of instructions, or have one code.
 use Rattle.std.proofs.Common.{◌≡◌, ℕ, List, [], Some, None, Result, Ok, Err, refl, sym, ap, subst, ◌∙◌}
 use Rattle.std.specs.Prelude.{IfOk, IfErr}
-use Rattle.of_wire.specs.declared.code.Code.{Code}
-use Rattle.of_wire.specs.declared.code.ReadError.{ReadError}
+use Rattle.of_wire.{specs.declared.code.Code.Code, specs.declared.code.ReadError.ReadError, specs.Failures.Fails, proofs.Walking.one_walk}
 use Rattle.of_wire.specs.declared.code.ReadError.TheVariants as errors
-use Rattle.of_wire.specs.Failures.{Fails}
-use Rattle.of_wire.proofs.Walking.{one_walk}
-use Rattle.of_actions.specs.declared.instruction.Instruction.{Instruction}
-use Rattle.of_actions.specs.Headers.{Header, AreHeaders, headers_of}
-use Rattle.of_actions.specs.Instructions.{AreBodies, EncodesInstructions, IsRefused}
-use Rattle.of_actions.specs.RunOrder.{in_run_order}
-use Rattle.of_actions.specs.Readings.{ReadsValue, Refuses}
+use Rattle.of_actions.specs.{declared.instruction.Instruction.Instruction, Headers.Header, Headers.AreHeaders, Headers.headers_of}
+use Rattle.of_actions.specs.{Instructions.AreBodies, Instructions.EncodesInstructions, Instructions.IsRefused, RunOrder.in_run_order, Readings.ReadsValue, Readings.Refuses}
 use Rattle.of_actions.proofs.Bodies.{one_bodies}
 
 pub one_list : (table : ℕ) (bytes : List ℕ) (some others : List Instruction) → EncodesInstructions table bytes some → EncodesInstructions table bytes others → some ≡ others

@@ -1,19 +1,12 @@
 -- How long instructions are that are written.
 use Rattle.std.proofs.Common.{◌≡◌, ℕ, ◌+◌, ◌≤◌, true, false, eqb, List, [], ◌∷◌, ◌++◌, length, refl, sym, ap, subst, ◌∙◌, arith}
-use Rattle.std.specs.Prelude.{◌==◌, ◌||◌, if◌then◌else◌}
-use Rattle.std.specs.List.{list_all}
-use Rattle.std.proofs.lemmas.Bool.{eqb-true}
-use Rattle.std.proofs.lemmas.Bool.Decides.{nat_tests}
+use Rattle.std.{specs.Prelude.◌==◌, specs.Prelude.◌||◌, specs.Prelude.if◌then◌else◌, specs.List.list_all, proofs.lemmas.Bool.eqb-true, proofs.lemmas.Bool.Decides.nat_tests}
 use Rattle.std.proofs.lemmas.List.{length-append, append_assoc}
 use Rattle.of_wire.specs.Numbered.{only}
-use Rattle.of_actions.specs.declared.instruction.Instruction.{Instruction}
 use Rattle.of_actions.specs.declared.instruction.Instruction.TheVariants.{Apply, Clear, Write, Metadata, Goto}
-use Rattle.of_actions.specs.Rising.{is_ascending}
-use Rattle.of_actions.specs.InstructionLists.{run_place, is_served_body, are_kept}
-use Rattle.of_actions.specs.RunOrder.{in_run_order}
-use Rattle.of_actions.specs.CanonicalInstructions.{canonical_instruction, canonical_instructions}
-use Rattle.of_actions.proofs.ActionsAgain.{canonical_short}
 use Rattle.of_actions.proofs.RunOrders.{groups, only_all, list_all-only, rising_only_of, one_of, order_same}
+use Rattle.of_actions.specs.{declared.instruction.Instruction.Instruction, Rising.is_ascending, InstructionLists.run_place, InstructionLists.is_served_body, InstructionLists.are_kept}
+use Rattle.of_actions.{specs.RunOrder.in_run_order, specs.CanonicalInstructions.canonical_instruction, specs.CanonicalInstructions.canonical_instructions, proofs.ActionsAgain.canonical_short}
 
 -- the bytes of one that is done at this place
 abbrev most : ℕ → ℕ

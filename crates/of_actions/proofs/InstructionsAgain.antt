@@ -1,29 +1,16 @@
 -- Instructions that are written are read again.
 use Rattle.std.proofs.Common.{◌≡◌, ℕ, ◌+◌, ◌-◌, ◌%◌, ◌^◌, ◌<◌, ◌≤◌, Bool, true, false, not, ltb, eqb, List, [], ◌∷◌, ◌++◌, length, take, drop, map, replicate, Some, None, refl, sym, ap, subst, ◌∙◌, arith}
-use Rattle.std.specs.Prelude.{◌==◌, ◌&&◌}
-use Rattle.std.specs.List.{list_all, flat_map}
-use Rattle.std.proofs.lemmas.Bool.{le-ltb, eq-eqb}
-use Rattle.std.proofs.lemmas.Bool.Decides.{nat_tests, eqb_tells}
-use Rattle.std.proofs.lemmas.List.{length-append, take_at}
-use Rattle.std.proofs.lemmas.List.Folds.{list_any-append}
-use Rattle.byteorder.specs.Endian.{big_bytes, big_number}
-use Rattle.byteorder.specs.Numbers.{big_number-reads_back}
-use Rattle.of_wire.specs.Refusals.{first_of}
-use Rattle.of_wire.specs.Items.{AreItems}
-use Rattle.of_wire.specs.Numbered.{is_used, is_distinct}
+use Rattle.std.{specs.Prelude.◌==◌, specs.Prelude.◌&&◌, specs.List.list_all, specs.List.flat_map, proofs.lemmas.Bool.le-ltb, proofs.lemmas.Bool.eq-eqb}
+use Rattle.std.proofs.{lemmas.Bool.Decides.nat_tests, lemmas.Bool.Decides.eqb_tells, lemmas.List.length-append, lemmas.List.take_at, lemmas.List.Folds.list_any-append}
+use Rattle.byteorder.specs.{Endian.big_bytes, Endian.big_number, Numbers.big_number-reads_back}
+use Rattle.of_wire.specs.{Refusals.first_of, Items.AreItems, Numbered.is_used, Numbered.is_distinct}
 use Rattle.of_wire.proofs.ItemsAgain.{Again, AllAgain, written_items}
-use Rattle.of_actions.specs.declared.instruction.Instruction.{Instruction}
 use Rattle.of_actions.specs.declared.instruction.Instruction.TheVariants.{Apply, Clear, Write, Metadata, Goto}
-use Rattle.of_actions.specs.Beginnings.{type_at, len_at}
-use Rattle.of_actions.specs.Rising.{is_ascending}
 use Rattle.of_actions.specs.InstructionLists.{type_of_instruction, run_place, is_served_body, are_kept, is_for, are_for}
 use Rattle.of_actions.specs.Headers.{Header, goto, metadata, write, apply, clear, kind_of, is_known, is_size, is_next, goto_table_at, headers_of, header_refusals, header_at}
-use Rattle.of_actions.specs.Instructions.{AreBodies, EncodesInstructions}
-use Rattle.of_actions.specs.CanonicalActions.{canonical_actions}
-use Rattle.of_actions.specs.CanonicalInstructions.{after_type, canonical_instruction, canonical_instructions}
-use Rattle.of_actions.proofs.ActionsAgain.{canonical_encoded, canonical_short}
-use Rattle.of_actions.proofs.Bodies.{distinct_place}
-use Rattle.of_actions.proofs.RunOrders.{order_same, rising_once}
+use Rattle.of_actions.specs.{declared.instruction.Instruction.Instruction, Beginnings.type_at, Beginnings.len_at, Rising.is_ascending, Instructions.AreBodies, Instructions.EncodesInstructions}
+use Rattle.of_actions.specs.{CanonicalActions.canonical_actions, CanonicalInstructions.after_type, CanonicalInstructions.canonical_instruction, CanonicalInstructions.canonical_instructions}
+use Rattle.of_actions.proofs.{ActionsAgain.canonical_encoded, ActionsAgain.canonical_short, Bodies.distinct_place, RunOrders.order_same, RunOrders.rising_once}
 
 -- the header that an instruction is written with, and what that is written as
 abbrev header_of : Instruction → Header

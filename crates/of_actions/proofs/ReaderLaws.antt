@@ -1,12 +1,8 @@
 -- A reader of items answers the one list that bytes encode, or their one code.
 use Rattle.std.proofs.Common.{ℕ, List, [], Some, None, Result, Ok, Err, refl}
 use Rattle.std.specs.Prelude.{IfOk, IfErr}
-use Rattle.of_wire.specs.declared.code.Code.{Code}
-use Rattle.of_wire.specs.declared.code.ReadError.{ReadError}
+use Rattle.of_wire.{specs.declared.code.Code.Code, specs.declared.code.ReadError.ReadError, specs.Failures.Fails, specs.Items.Items, specs.Items.AreItems, proofs.Walking.one_walk}
 use Rattle.of_wire.specs.declared.code.ReadError.TheVariants as errors
-use Rattle.of_wire.specs.Failures.{Fails}
-use Rattle.of_wire.specs.Items.{Items, AreItems}
-use Rattle.of_wire.proofs.Walking.{one_walk}
 use Rattle.of_actions.specs.Readings.{ReadsValue, Refuses}
 
 pub fails_weaker : (P Q : Code → Type 0) → ((code : Code) → P code → Q code) → (e : ReadError) → Fails P e → Fails Q e

@@ -1,10 +1,7 @@
 -- The type of an action with what it says is the action's again.
 use Rattle.std.proofs.Common.{◌≡◌, ℕ, Some, refl, arith}
 use Rattle.std.proofs.lemmas.Bool.Decides.{nat_tests}
-use Rattle.of_actions.specs.declared.action.Action.{Action}
-use Rattle.of_actions.specs.declared.action.Action.TheVariants.{PopVlan}
-use Rattle.of_actions.specs.declared.argument.Argument.{Argument}
-use Rattle.of_actions.specs.declared.argument.Argument.TheVariants.{Nothing}
+use Rattle.of_actions.specs.{declared.action.Action.Action, declared.action.Action.TheVariants.PopVlan, declared.argument.Argument.Argument, declared.argument.Argument.TheVariants.Nothing}
 use Rattle.of_actions.specs.Rows.{said, action_saying}
 
 -- an action has this type, and says this

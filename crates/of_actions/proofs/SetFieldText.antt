@@ -1,12 +1,9 @@
 -- A set field as it is written, part by part.
 use Rattle.std.proofs.Common.{◌≡◌, ℕ, ◌+◌, ◌-◌, ◌*◌, List, [], ◌∷◌, ◌++◌, replicate, Result, Ok, Err, ap, ◌∙◌}
-use Rattle.std.specs.Prelude.{OnOk}
-use Rattle.std.proofs.lemmas.List.{append_assoc}
+use Rattle.std.{specs.Prelude.OnOk, proofs.lemmas.List.append_assoc}
 use Rattle.byteorder.specs.Endian.{big_bytes}
-use Rattle.of_layers.specs.declared.field.Field.{Field}
-use Rattle.of_layers.specs.Fields.{number_of, bytes_of}
-use Rattle.of_actions.specs.SetField.{set_len}
-use Rattle.of_actions.specs.CanonicalActions.{canonical_set_field}
+use Rattle.of_layers.specs.{declared.field.Field.Field, Fields.number_of, Fields.bytes_of}
+use Rattle.of_actions.specs.{SetField.set_len, CanonicalActions.canonical_set_field}
 
 pub set_text : (f : Field) (v : ℕ) (out a b c d : List ℕ) → a ≡ out ++ 0 ∷ 25 ∷ 0 ∷ set_len f ∷ [] → b ≡ a ++ 128 ∷ 0 ∷ 2 * number_of f ∷ bytes_of f ∷ [] → c ≡ b ++ big_bytes (bytes_of f) v → d ≡ c ++ replicate (set_len f - (8 + bytes_of f)) 0
     → d ≡ out ++ canonical_set_field f v

@@ -2,20 +2,14 @@
 use Rattle.std.specs.Prelude.{ℕ, ◌%◌, ◌==◌, nat_lt, Bool, true, not, ◌||◌, List, [], ◌∷◌, length, Option, Some, None, Result, if◌then◌else◌}
 use Rattle.std.specs.Option.{option_map, option_map_or, option_and_then}
 use Rattle.of_wire.specs.declared.codes.TheConstants.{OFPBAC_BAD_ARGUMENT, OFPBAC_BAD_EXPERIMENTER, OFPBAC_BAD_LEN, OFPBAC_BAD_OUT_PORT, OFPBAC_BAD_TYPE, OFPBAC_TOO_MANY}
-use Rattle.of_wire.specs.declared.code.Code.{Code}
-use Rattle.of_wire.specs.Items.{Items, AreItems, items_from}
+use Rattle.of_wire.specs.{declared.code.Code.Code, Items.Items, Items.AreItems, Items.items_from}
 use Rattle.of_layers.specs.Reading.{is_tag_type}
 use Rattle.of_formats.specs.Structs.{numbers, size}
 use Rattle.of_formats.specs.Tables as tables
-use Rattle.of_actions.specs.Beginnings.{type_at, len_at, argument_at}
-use Rattle.of_actions.specs.PortNumbers.{is_port}
-use Rattle.of_actions.specs.SetField.{set_field_at, set_value_at, set_refusals}
-use Rattle.of_actions.specs.declared.action.Action.{Action}
-use Rattle.of_actions.specs.declared.argument.Argument.{Argument}
 use Rattle.of_actions.specs.declared.argument.Argument.TheVariants.{Nothing, Byte, Tag, Word, Port, Field}
-use Rattle.of_actions.specs.declared.rows.Form.{Form}
+use Rattle.of_actions.specs.{Beginnings.type_at, Beginnings.len_at, Beginnings.argument_at, PortNumbers.is_port, SetField.set_field_at, SetField.set_value_at, SetField.set_refusals}
+use Rattle.of_actions.specs.{declared.action.Action.Action, declared.argument.Argument.Argument, declared.rows.Form.Form, Rows.action_row, Rows.action_saying}
 use Rattle.of_actions.specs.declared.rows.Form.TheVariants as forms
-use Rattle.of_actions.specs.Rows.{action_row, action_saying}
 
 -- an action of another size: OFPBAC_BAD_LEN
 abbrev pub wrong_size : ℕ → List ℕ → Bool × Code

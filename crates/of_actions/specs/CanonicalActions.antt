@@ -2,15 +2,11 @@
 use Rattle.std.specs.Prelude.{ℕ, ◌+◌, ◌-◌, ◌*◌, List, [], ◌∷◌, ◌++◌, replicate}
 use Rattle.std.specs.List.{flat_map}
 use Rattle.byteorder.specs.Endian.{big_bytes}
-use Rattle.of_layers.specs.declared.field.Field.{Field as AField}
-use Rattle.of_layers.specs.Fields.{number_of, bytes_of}
+use Rattle.of_layers.specs.{declared.field.Field.Field as AField, Fields.number_of, Fields.bytes_of}
 use Rattle.of_formats.specs.Structs.{written}
 use Rattle.of_formats.specs.Tables as tables
-use Rattle.of_actions.specs.declared.action.Action.{Action}
-use Rattle.of_actions.specs.declared.argument.Argument.{Argument}
 use Rattle.of_actions.specs.declared.argument.Argument.TheVariants.{Nothing, Byte, Tag, Word, Port, Field}
-use Rattle.of_actions.specs.Rows.{said}
-use Rattle.of_actions.specs.SetField.{set_len}
+use Rattle.of_actions.specs.{declared.action.Action.Action, declared.argument.Argument.Argument, Rows.said, SetField.set_len}
 
 -- type 25, the length, OXM class 0x8000, the number and no mask, the length of the value, the value, padding
 unfoldable pub canonical_set_field : AField → ℕ → List ℕ

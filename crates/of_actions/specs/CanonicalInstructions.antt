@@ -3,9 +3,8 @@ use Rattle.std.specs.Prelude.{ℕ, ◌+◌, List, [], ◌∷◌, ◌++◌, lengt
 use Rattle.std.specs.List.{flat_map}
 use Rattle.of_formats.specs.Structs.{written}
 use Rattle.of_formats.specs.Tables as tables
-use Rattle.of_actions.specs.declared.instruction.Instruction.{Instruction}
 use Rattle.of_actions.specs.declared.instruction.Instruction.TheVariants.{Apply, Clear, Write, Metadata, Goto}
-use Rattle.of_actions.specs.CanonicalActions.{canonical_actions}
+use Rattle.of_actions.specs.{declared.instruction.Instruction.Instruction, CanonicalActions.canonical_actions}
 
 -- the length of all, padding and the actions
 abbrev pub after_type : List ℕ → List ℕ

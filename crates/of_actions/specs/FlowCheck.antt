@@ -2,11 +2,8 @@
 use Rattle.std.specs.Prelude.{nat_lt, Bool, true, ◌||◌, List}
 use Rattle.std.specs.List.{list_all}
 use Rattle.of_layers.specs.Fields.{number_of, prerequisite_of}
-use Rattle.of_oxm.specs.declared.match_field.MatchField.{MatchField}
-use Rattle.of_oxm.specs.Prerequisites.{is_met}
-use Rattle.of_actions.specs.declared.action.Action.{Action}
-use Rattle.of_actions.specs.declared.action.Action.TheVariants.{SetField}
-use Rattle.of_actions.specs.declared.instruction.Instruction.{Instruction}
+use Rattle.of_oxm.specs.{declared.match_field.MatchField.MatchField, Prerequisites.is_met}
+use Rattle.of_actions.specs.{declared.action.Action.Action, declared.action.Action.TheVariants.SetField, declared.instruction.Instruction.Instruction}
 use Rattle.of_actions.specs.declared.instruction.Instruction.TheVariants.{Apply, Write}
 
 -- a set-field's prerequisites are in the match; fields below 8, those of Ethernet and VLAN, are not checked

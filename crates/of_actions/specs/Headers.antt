@@ -1,9 +1,7 @@
 -- The headers of instructions (OpenFlow 1.3.5, 7.2.4).
 use Rattle.std.specs.Prelude.{ℕ, ◌-◌, ◌%◌, ◌==◌, nat_lt, nat_le, Bool, true, not, ◌&&◌, ◌||◌, List, [], ◌∷◌, length, take, drop, Option, Some, None, if◌then◌else◌}
 use Rattle.of_wire.specs.declared.codes.TheConstants.{OFPBIC_BAD_EXPERIMENTER, OFPBIC_BAD_LEN, OFPBIC_BAD_TABLE_ID, OFPBIC_UNKNOWN_INST, OFPBIC_UNSUP_INST}
-use Rattle.of_wire.specs.declared.code.Code.{Code}
-use Rattle.of_wire.specs.Items.{Items, AreItems}
-use Rattle.of_wire.specs.Numbered.{is_used}
+use Rattle.of_wire.specs.{declared.code.Code.Code, Items.Items, Items.AreItems, Numbered.is_used}
 use Rattle.of_formats.specs.Structs.{numbers, size}
 use Rattle.of_formats.specs.Tables as tables
 use Rattle.of_actions.specs.Beginnings.{type_at, len_at, argument_at}

@@ -1,10 +1,8 @@
 -- Instructions as an entry keeps them (OpenFlow 1.3.5, 5.9 and 7.2.4).
 use Rattle.std.specs.Prelude.{ℕ, ◌^◌, nat_lt, Bool, true, false, ◌&&◌, List}
 use Rattle.std.specs.List.{list_all}
-use Rattle.of_actions.specs.declared.instruction.Instruction.{Instruction}
 use Rattle.of_actions.specs.declared.instruction.Instruction.TheVariants.{Apply, Clear, Write, Metadata, Goto}
-use Rattle.of_actions.specs.Rising.{is_ascending}
-use Rattle.of_actions.specs.Supported.{are_supported}
+use Rattle.of_actions.specs.{declared.instruction.Instruction.Instruction, Rising.is_ascending, Supported.are_supported}
 
 -- the type of an instruction on the wire
 abbrev pub type_of_instruction : Instruction → ℕ

@@ -1,13 +1,9 @@
 -- What the bytes of instructions say, as a function: the instructions, or the code of the first refusal (OpenFlow 1.3.5, 7.2.4 and 7.4.4).
 use Rattle.std.specs.Prelude.{ℕ, false, List, [], ◌∷◌, length, Result, Ok, Err}
-use Rattle.of_wire.specs.declared.code.Code.{Code}
-use Rattle.of_wire.specs.Items.{items_from}
-use Rattle.of_actions.specs.declared.action.Action.{Action}
-use Rattle.of_actions.specs.declared.instruction.Instruction.{Instruction}
+use Rattle.of_wire.specs.{declared.code.Code.Code, Items.items_from}
 use Rattle.of_actions.specs.declared.instruction.Instruction.TheVariants.{Apply, Clear, Write, Metadata, Goto}
-use Rattle.of_actions.specs.Actions.{actions_said}
 use Rattle.of_actions.specs.Headers.{Header, goto, metadata, write, apply, clear, headers_of}
-use Rattle.of_actions.specs.RunOrder.{in_run_order}
+use Rattle.of_actions.specs.{declared.action.Action.Action, declared.instruction.Instruction.Instruction, Actions.actions_said, RunOrder.in_run_order}
 
 abbrev pub with_actions_read : (List Action → Instruction) → Result (List Action) Code → Result Instruction Code
 with_actions_read make (Ok actions) = Ok (make actions)

@@ -1,12 +1,9 @@
 -- The instructions of a flow entry on the wire (OpenFlow 1.3.5, 5.9 and 7.2.4): first all headers, then the actions in each.
 use Rattle.std.specs.Prelude.{◌≡◌, ℕ, false, List, [], ◌∷◌, Option, Some, None}
 use Rattle.of_wire.specs.declared.code.Code.{Code}
-use Rattle.of_actions.specs.declared.action.Action.{Action}
-use Rattle.of_actions.specs.declared.instruction.Instruction.{Instruction}
 use Rattle.of_actions.specs.declared.instruction.Instruction.TheVariants.{Apply, Clear, Write, Metadata, Goto}
-use Rattle.of_actions.specs.Actions.{AreActions}
 use Rattle.of_actions.specs.Headers.{Header, goto, metadata, write, apply, clear, AreHeaders}
-use Rattle.of_actions.specs.RunOrder.{in_run_order}
+use Rattle.of_actions.specs.{declared.action.Action.Action, declared.instruction.Instruction.Instruction, Actions.AreActions, RunOrder.in_run_order}
 
 -- the bytes are actions, and the instruction has them
 pub record HasActions (bytes : List ℕ) (make : List Action → Instruction) (i : Instruction) : Type 0 where

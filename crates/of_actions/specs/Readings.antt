@@ -1,9 +1,7 @@
 -- What a reader returns where the bytes are known to encode a value, or to have a code.
 use Rattle.std.specs.Prelude.{◌≡◌, Result, Ok, Err}
-use Rattle.of_wire.specs.declared.code.Code.{Code}
-use Rattle.of_wire.specs.declared.code.ReadError.{ReadError}
+use Rattle.of_wire.specs.{declared.code.Code.Code, declared.code.ReadError.ReadError, Failures.Fails}
 use Rattle.of_wire.specs.declared.code.ReadError.TheVariants as errors
-use Rattle.of_wire.specs.Failures.{Fails}
 
 -- this value was read, unless memory ran out
 abbrev pub ReadsValue : {V : Type 0} → Result V ReadError → V → Type 0

@@ -1,11 +1,9 @@
 -- ACTIONS AS ROWS OF A TABLE (OpenFlow 1.3.5, 7.2.5), which is a constant of the code: the row of each action, and what the action says beside its type and its length.
 use Rattle.std.specs.Prelude.{ℕ, ◌==◌, Option, Some, None, find, if◌then◌else◌}
-use Rattle.of_actions.specs.declared.rows.ActionRow.{ActionRow}
 use Rattle.of_actions.specs.declared.rows.TheConstants.{ACTIONS, OUTPUT, PUSH_VLAN, POP_VLAN, GROUP, SET_NW_TTL, DEC_NW_TTL, SET_FIELD}
-use Rattle.of_actions.specs.declared.action.Action.{Action}
 use Rattle.of_actions.specs.declared.action.Action.TheVariants.{Output, PushVlan, PopVlan, Group, SetNwTtl, DecNwTtl, SetField}
-use Rattle.of_actions.specs.declared.argument.Argument.{Argument}
 use Rattle.of_actions.specs.declared.argument.Argument.TheVariants.{Nothing, Byte, Tag, Word, Port, Field}
+use Rattle.of_actions.specs.{declared.rows.ActionRow.ActionRow, declared.action.Action.Action, declared.argument.Argument.Argument}
 
 -- the row of a type
 abbrev pub action_row : ℕ → Option ActionRow

@@ -4,8 +4,7 @@ use Rattle.std.specs.Option.{option_map_or}
 use Rattle.byteorder.specs.Endian.{big_number}
 use Rattle.of_wire.specs.declared.codes.TheConstants.{OFPBAC_BAD_SET_ARGUMENT, OFPBAC_BAD_SET_LEN, OFPBAC_BAD_SET_TYPE}
 use Rattle.of_wire.specs.declared.code.Code.{Code}
-use Rattle.of_layers.specs.declared.field.Field.{Field}
-use Rattle.of_layers.specs.Fields.{bytes_of, ones_of, is_settable, field_at}
+use Rattle.of_layers.specs.{declared.field.Field.Field, Fields.bytes_of, Fields.ones_of, Fields.is_settable, Fields.field_at}
 use Rattle.of_actions.specs.Beginnings.{len_at}
 
 abbrev pub settable : Option Field → Option Field

@@ -1,13 +1,9 @@
 -- Supported actions: those that some bytes encode, in a PACKET_OUT or in an instruction (OpenFlow 1.3.5, 5.12 and 7.2.5).
 use Rattle.std.specs.Prelude.{nat_lt, nat_le, Bool, true, ◌&&◌, List, length}
 use Rattle.std.specs.List.{list_all}
-use Rattle.of_layers.specs.Fields.{is_settable, ones_of}
-use Rattle.of_layers.specs.Reading.{is_tag_type}
-use Rattle.of_actions.specs.declared.action.Action.{Action}
-use Rattle.of_actions.specs.declared.argument.Argument.{Argument}
+use Rattle.of_layers.specs.{Fields.is_settable, Fields.ones_of, Reading.is_tag_type}
 use Rattle.of_actions.specs.declared.argument.Argument.TheVariants.{Nothing, Byte, Tag, Word, Port, Field}
-use Rattle.of_actions.specs.Rows.{said}
-use Rattle.of_actions.specs.PortNumbers.{is_port}
+use Rattle.of_actions.specs.{declared.action.Action.Action, declared.argument.Argument.Argument, Rows.said, PortNumbers.is_port}
 
 -- numbers fit their bytes, ports may be named, a tag has one of the two types, a field may be set and its value fits it
 abbrev pub is_allowed : Bool → Argument → Bool

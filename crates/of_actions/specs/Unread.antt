@@ -1,7 +1,7 @@
 -- Headers as the reader keeps them, and what it knows of them.
 use Rattle.std.specs.Prelude.{ℕ, ◌^◌, nat_lt, Bool, true, ◌&&◌}
-use Rattle.of_actions.specs.declared.unread.Header.{Header}
 use Rattle.of_actions.specs.declared.unread.Header.TheVariants.{Goto, Metadata, Write, Apply, Clear}
+use Rattle.of_actions.specs.declared.unread.Header.{Header}
 use Rattle.of_actions.specs.Headers as seen
 
 abbrev pub header_of : Header → seen.Header

@@ -1,11 +1,8 @@
 //! Actions, and the bytes of each.
 ghost use Rattle.std.specs.Prelude.{◌≡◌, ◌≤◌, ◌++◌, true, length, IsTrue, IfOk, OnOk, IfErr, IfSome, Some, None};
 ghost use Rattle.of_wire.specs.Refusals.{first_of};
-ghost use Rattle.of_actions.specs.Actions.{action_at, type_refusals, unknown_type as no_action_of};
-ghost use Rattle.of_actions.specs.Beginnings.{len_at};
-ghost use Rattle.of_actions.specs.CanonicalActions.{canonical_action};
-ghost use Rattle.of_actions.specs.Rows.{action_saying, said as row_and_argument};
-ghost use Rattle.of_actions.specs.Supported.{is_supported};
+ghost use Rattle.of_actions.specs.{Actions.action_at, Actions.type_refusals, Actions.unknown_type as no_action_of, Beginnings.len_at, CanonicalActions.canonical_action};
+ghost use Rattle.of_actions.specs.{Rows.action_saying, Rows.said as row_and_argument, Supported.is_supported};
 
 use crate::argument::{Argument, put_argument, read_argument};
 use crate::rows::{

@@ -15,8 +15,7 @@ pub struct ActionList {
 
 impl Model for ActionList {
     ghost use Rattle.std.specs.Prelude.{List, IsTrue, true};
-    ghost use Rattle.of_actions.specs.declared.action.Action.{Action};
-    ghost use Rattle.of_actions.specs.Supported.{are_supported};
+    ghost use Rattle.of_actions.specs.{declared.action.Action.Action, Supported.are_supported};
 
     ghost Value = { List Action };
 

@@ -1,13 +1,8 @@
 //! Actions from bytes.
 ghost use Rattle.std.specs.Prelude.{◌≡◌, ◌≤◌, ℕ, Bool, Option, List, [], length, IsTrue, IfOk, OnOk, IfErr, Some, None};
-ghost use Rattle.of_wire.specs.declared.code.Code.{Code as ErrorCode};
-ghost use Rattle.of_wire.specs.Failures.{Fails, Reads as AnswersAs};
-ghost use Rattle.of_wire.specs.Refusals.{first_of};
-ghost use Rattle.of_actions.specs.declared.action.Action.{Action as AnAction};
-ghost use Rattle.of_actions.specs.Actions.{AreActions, action_at, wire_action_refusals, actions_said};
-ghost use Rattle.of_actions.specs.Beginnings.{len_at};
-ghost use Rattle.of_actions.specs.Readings.{ReadsValue, Refuses};
-ghost use Rattle.of_actions.specs.Supported.{are_supported, is_supported};
+ghost use Rattle.of_wire.specs.{declared.code.Code.Code as ErrorCode, Failures.Fails, Failures.Reads as AnswersAs, Refusals.first_of};
+ghost use Rattle.of_actions.specs.{declared.action.Action.Action as AnAction, Actions.AreActions, Actions.action_at, Actions.wire_action_refusals, Actions.actions_said, Beginnings.len_at};
+ghost use Rattle.of_actions.specs.{Readings.ReadsValue, Readings.Refuses, Supported.are_supported, Supported.is_supported};
 
 use crate::action::{Action, read_type};
 use crate::action_list::ActionList;

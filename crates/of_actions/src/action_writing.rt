@@ -1,9 +1,7 @@
 //! Actions as bytes.
 ghost use Rattle.std.specs.Prelude.{◌≡◌, ◌≤◌, ◌++◌, Bool, true, [], length, IsTrue, None, OnOk, IfOk};
 ghost use Rattle.std.specs.List.{list_all};
-ghost use Rattle.of_actions.specs.Actions.{AreActions};
-ghost use Rattle.of_actions.specs.Supported.{is_supported, are_supported};
-ghost use Rattle.of_actions.specs.CanonicalActions.{canonical_actions};
+ghost use Rattle.of_actions.specs.{Actions.AreActions, Supported.is_supported, Supported.are_supported, CanonicalActions.canonical_actions};
 
 use crate::action::{Action, put_action};
 use crate::action_list::ActionList;

@@ -3,10 +3,7 @@ ghost use Rattle.std.specs.Prelude.{◌≡◌, ◌≤◌, ◌==◌, ◌++◌, �
 ghost use Rattle.byteorder.specs.Endian.{big_bytes};
 ghost use Rattle.of_wire.specs.Refusals.{first_of};
 ghost use Rattle.of_actions.specs.declared.rows.Form.TheVariants as forms;
-ghost use Rattle.of_actions.specs.Actions.{argument_of, form_refusals};
-ghost use Rattle.of_actions.specs.Beginnings.{len_at};
-ghost use Rattle.of_actions.specs.CanonicalActions.{canonical_argument};
-ghost use Rattle.of_actions.specs.Supported.{is_allowed as may_be_said};
+ghost use Rattle.of_actions.specs.{Actions.argument_of, Actions.form_refusals, Beginnings.len_at, CanonicalActions.canonical_argument, Supported.is_allowed as may_be_said};
 
 use crate::port_number::is_port;
 use crate::rows::Form;

@@ -1,12 +1,9 @@
 //! The headers of instructions from bytes (OpenFlow 1.3.5, 7.2.4).
 ghost use Rattle.std.specs.Prelude.{◌≡◌, ◌≤◌, ◌==◌, ◌&&◌, not, List, [], true, false, length, IfOk, OnOk, IfErr, Some, None};
 ghost use Rattle.std.specs.List.{list_all};
-ghost use Rattle.of_wire.specs.Failures.{Fails};
-ghost use Rattle.of_wire.specs.Refusals.{first_of};
-ghost use Rattle.of_wire.specs.Numbered.{is_used as is_used_number, is_distinct};
-ghost use Rattle.of_actions.specs.Beginnings.{type_at, len_at};
+ghost use Rattle.of_wire.specs.{Failures.Fails, Refusals.first_of, Numbered.is_used as is_used_number, Numbered.is_distinct};
 ghost use Rattle.of_actions.specs.Headers.{Header as AHeader, AreHeaders, header_at, header_refusals, is_known as is_known_kind, is_next as is_next_table, is_size as is_size_of_kind, kind_of, goto_table_at};
-ghost use Rattle.of_actions.specs.Unread.{is_sound_header, leads_on};
+ghost use Rattle.of_actions.specs.{Beginnings.type_at, Beginnings.len_at, Unread.is_sound_header, Unread.leads_on};
 
 use crate::unread::{Header, UnreadInstruction};
 use byteorder::{BigEndian, ByteOrder};

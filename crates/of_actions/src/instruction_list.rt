@@ -16,8 +16,7 @@ pub struct InstructionList {
 
 impl Model for InstructionList {
     ghost use Rattle.std.specs.Prelude.{List, IsTrue};
-    ghost use Rattle.of_actions.specs.declared.instruction.Instruction.{Instruction};
-    ghost use Rattle.of_actions.specs.InstructionLists.{are_kept};
+    ghost use Rattle.of_actions.specs.{declared.instruction.Instruction.Instruction, InstructionLists.are_kept};
 
     ghost Value = { List Instruction };
 

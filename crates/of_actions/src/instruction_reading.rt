@@ -1,14 +1,10 @@
 //! Instructions from bytes.
 ghost use Rattle.std.specs.Prelude.{◌≡◌, ℕ, List, true, IsTrue, IfOk, IfErr, Some, None};
 ghost use Rattle.std.specs.List.{list_all};
-ghost use Rattle.of_wire.specs.declared.code.Code.{Code as ErrorCode};
-ghost use Rattle.of_wire.specs.Failures.{Fails, Reads as AnswersAs};
-ghost use Rattle.of_actions.specs.declared.instruction.Instruction.{Instruction as AnInstruction};
-ghost use Rattle.of_actions.specs.InstructionLists.{is_served_body, are_for};
+ghost use Rattle.of_wire.specs.{declared.code.Code.Code as ErrorCode, Failures.Fails, Failures.Reads as AnswersAs};
 ghost use Rattle.of_actions.specs.Instructions.{AreBodies, IsInstructionBody, IsFault, IsRefused, EncodesInstructions};
-ghost use Rattle.of_actions.specs.InstructionReading.{instructions_in_bytes};
-ghost use Rattle.of_actions.specs.Readings.{ReadsValue, Refuses};
-ghost use Rattle.of_actions.specs.Unread.{is_sound_header};
+ghost use Rattle.of_actions.specs.{declared.instruction.Instruction.Instruction as AnInstruction, InstructionLists.is_served_body, InstructionLists.are_for, InstructionReading.instructions_in_bytes};
+ghost use Rattle.of_actions.specs.{Readings.ReadsValue, Readings.Refuses, Unread.is_sound_header};
 
 use crate::action_reading::read_actions;
 use crate::header_reading::read_headers;

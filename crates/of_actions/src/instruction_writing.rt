@@ -1,9 +1,7 @@
 //! Instructions as bytes.
 ghost use Rattle.std.specs.Prelude.{◌≡◌, ◌≤◌, ◌<◌, ◌++◌, ◌∷◌, ℕ, length, IsTrue, OnOk, IfOk};
 ghost use Rattle.byteorder.specs.Endian.{big_bytes};
-ghost use Rattle.of_actions.specs.InstructionLists.{are_for};
-ghost use Rattle.of_actions.specs.Instructions.{EncodesInstructions};
-ghost use Rattle.of_actions.specs.CanonicalActions.{canonical_actions};
+ghost use Rattle.of_actions.specs.{InstructionLists.are_for, Instructions.EncodesInstructions, CanonicalActions.canonical_actions};
 ghost use Rattle.of_actions.specs.CanonicalInstructions.{after_type, canonical_instruction, canonical_instructions};
 
 use crate::action_list::ActionList;

@@ -1,13 +1,9 @@
 //! A set-field action from bytes and as bytes (OpenFlow 1.3.5, 7.2.5).
 ghost use Rattle.std.specs.Prelude.{◌≡◌, ◌≤◌, ◌<◌, ◌++◌, Bool, length, IsTrue, IfOk, OnOk, IfErr, Some, None};
 ghost use Rattle.of_wire.specs.Refusals.{first_of};
-ghost use Rattle.of_actions.specs.Beginnings.{len_at};
-ghost use Rattle.of_actions.specs.SetField.{set_field_at, set_refusals};
+ghost use Rattle.of_actions.specs.{Beginnings.len_at, SetField.set_field_at, SetField.set_refusals, Actions.argument_of, CanonicalActions.canonical_set_field, Supported.is_allowed};
 ghost use Rattle.of_layers.specs.Fields.{ones_of};
 ghost use Rattle.of_actions.specs.declared.rows.Form.TheVariants as forms;
-ghost use Rattle.of_actions.specs.Actions.{argument_of};
-ghost use Rattle.of_actions.specs.CanonicalActions.{canonical_set_field};
-ghost use Rattle.of_actions.specs.Supported.{is_allowed};
 
 use crate::argument::Argument;
 use byteorder::{BigEndian, ByteOrder};

@@ -26,8 +26,7 @@ pub(crate) struct UnreadInstruction<'a> {
 }
 
 impl<'a> Model for UnreadInstruction<'a> {
-    ghost use Rattle.of_actions.specs.Headers.{Header};
-    ghost use Rattle.of_actions.specs.Unread.{header_of};
+    ghost use Rattle.of_actions.specs.{Headers.Header, Unread.header_of};
 
     ghost Value = { Header };
 

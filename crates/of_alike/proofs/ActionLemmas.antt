@@ -1,17 +1,13 @@
 -- `==` tells actions apart, and so lists of them.
 use Rattle.std.proofs.Common.{◌≡◌, Bool, true, List, ap, refl, sym, ◌∙◌, rules}
-use Rattle.std.specs.Bool.{Decides}
-use Rattle.std.specs.Cmp.Lexicographic.{pointwise}
-use Rattle.std.proofs.lemmas.Bool.Decides.{Decides-and, Decides-eqb, Decides-like}
+use Rattle.std.{specs.Bool.Decides, specs.Cmp.Lexicographic.pointwise, proofs.lemmas.Bool.Decides.Decides-and, proofs.lemmas.Bool.Decides.Decides-eqb, proofs.lemmas.Bool.Decides.Decides-like}
 use Rattle.std.proofs.lemmas.Slice.Eq.{slice_eq-Decides}
 use denote.Enum.Bare.{same_true}
-use Rattle.of_layers.specs.contracts.field.Field.{the_type}
+use Rattle.of_layers.specs.{contracts.field.Field.the_type, declared.field.Field.Field, declared.field.Field.TheVariants.InPort}
 use Rattle.of_layers.specs.contracts.field.FieldPartialEq.TheImpl as the_field
-use Rattle.of_layers.specs.declared.field.Field.{Field}
-use Rattle.of_layers.specs.declared.field.Field.TheVariants.{InPort}
 use Rattle.of_actions.specs.contracts.action.ActionPartialEq.TheImpl as the_action
-use Rattle.of_actions.specs.declared.action.Action.{Action}
 use Rattle.of_actions.specs.declared.action.Action.TheVariants.{Output, PushVlan, PopVlan, Group, SetNwTtl, DecNwTtl, SetField}
+use Rattle.of_actions.specs.declared.action.Action.{Action}
 
 field_self : (f : Field) → the_field.eq-value.it f f ≡ true
 field_self f = elim f as (λ f. the_field.eq-value.it f f ≡ true) [ InPort ↦ refl | _ ↦ refl ]

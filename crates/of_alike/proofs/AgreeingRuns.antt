@@ -1,25 +1,12 @@
 -- The rest of two runs whose switches agree from a table on.
 use Rattle.std.proofs.Common.{◌≡◌, ℕ, suc, ◌+◌, ◌≤◌, ◌==◌, true, false, List, [], ◌∷◌, ◌++◌, refl, sym, ◌∙◌, ap, arith, add_comm}
-use Rattle.std.specs.Prelude.{unwrap_or}
-use Rattle.std.specs.List.{AllByRecursion, list_all}
-use Rattle.std.proofs.lemmas.Bool.Decides.{nat_tests}
-use Rattle.std.proofs.lemmas.List.{append-nil}
+use Rattle.std.{specs.Prelude.unwrap_or, specs.List.AllByRecursion, specs.List.list_all, proofs.lemmas.Bool.Decides.nat_tests, proofs.lemmas.List.append-nil}
 use Rattle.of_wire.specs.declared.limits.TheConstants.{OFPP_TABLE}
-use Rattle.of_actions.specs.declared.action.Action.{Action}
-use Rattle.of_actions.specs.declared.action.Action.TheVariants.{Output}
-use Rattle.of_actions.specs.declared.instruction.Instruction.{Instruction}
 use Rattle.of_actions.specs.declared.instruction.Instruction.TheVariants.{Apply, Clear, Write, Metadata, Goto}
-use Rattle.of_actions.specs.InstructionLists.{are_for, is_for, is_served_body}
-use Rattle.of_actions.specs.PortNumbers.{is_port}
-use Rattle.of_actions.specs.Supported.{are_supported, is_supported}
-use Rattle.of_machine.specs.declared.data.Packet.{Packet}
-use Rattle.of_machine.specs.declared.data.Item.{Item}
-use Rattle.of_machine.specs.TheWorld.{TheWorld}
-use Rattle.of_machine.specs.Rows.{Lookup, task}
-use Rattle.of_machine.specs.Runs.{Machine, after, run_of, starting}
-use Rattle.of_machine.specs.Sound.{AllBuckets, IsSound}
-use Rattle.of_machine.specs.Weights.{task_weight}
-use Rattle.of_machine.proofs.Ending.{after_plus, run_is_after, settled}
+use Rattle.of_actions.specs.{declared.action.Action.Action, declared.action.Action.TheVariants.Output, declared.instruction.Instruction.Instruction}
+use Rattle.of_actions.specs.{InstructionLists.are_for, InstructionLists.is_for, InstructionLists.is_served_body, PortNumbers.is_port, Supported.are_supported, Supported.is_supported}
+use Rattle.of_machine.specs.{declared.data.Packet.Packet, declared.data.Item.Item, TheWorld.TheWorld, Rows.Lookup, Rows.task, Runs.Machine, Runs.after, Runs.run_of, Runs.starting}
+use Rattle.of_machine.{specs.Sound.AllBuckets, specs.Sound.IsSound, specs.Weights.task_weight, proofs.Ending.after_plus, proofs.Ending.run_is_after, proofs.Ending.settled}
 use Rattle.of_machine.proofs.Whole.{frame_fits, run_ends, run_is}
 use Rattle.of_alike.specs.Agreeing.{AgreeFrom, AllFrom, AreNoTable, InstructionFrom, IsNoTable}
 use Rattle.of_alike.proofs.Agreeing.{IsOnward, StepsAgree, after_agrees}

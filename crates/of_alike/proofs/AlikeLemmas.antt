@@ -1,17 +1,9 @@
 -- What leaves, at one place and at all.
 use Rattle.std.proofs.Common.{◌≡◌, ◌⊎◌, ℕ, ◌+◌, ◌<◌, eqb, cond, Bool, true, false, List, [], ◌∷◌, ◌++◌, map, length, take, get_or, Option, Some, None, Decides, refl, sym, ap, ◌∙◌, inl, inr}
-use Rattle.std.specs.List.{Contains}
-use Rattle.std.specs.Option.{IfNone}
-use Rattle.std.proofs.lemmas.Bool.{eqb-true}
-use Rattle.std.proofs.lemmas.Bool.Decides.{Decides-like}
-use Rattle.std.proofs.lemmas.List.Elements.{filter_more}
-use Rattle.of_machine.specs.declared.data.Item.{Item}
-use Rattle.of_machine.specs.declared.data.Item.TheVariants.{PacketIn, Sent}
-use Rattle.of_machine.specs.declared.data.ToController.{ToController}
-use Rattle.of_alike.specs.declared.alike.Compared.{Compared}
-use Rattle.of_alike.specs.declared.alike.Where.{Where}
-use Rattle.of_alike.specs.declared.alike.Where.TheVariants.{Controller, Port as ByPort}
+use Rattle.std.{specs.List.Contains, specs.Option.IfNone, proofs.lemmas.Bool.eqb-true, proofs.lemmas.Bool.Decides.Decides-like, proofs.lemmas.List.Elements.filter_more}
+use Rattle.of_machine.specs.{declared.data.Item.Item, declared.data.Item.TheVariants.PacketIn, declared.data.Item.TheVariants.Sent, declared.data.ToController.ToController}
 use Rattle.of_alike.specs.Alike.{IsAlikeAt, LeavesAlike, leaves_at, leaving, sent_by, to_controller}
+use Rattle.of_alike.specs.{declared.alike.Compared.Compared, declared.alike.Where.Where, declared.alike.Where.TheVariants.Controller, declared.alike.Where.TheVariants.Port as ByPort}
 
 -- ---- what comes later
 

@@ -1,13 +1,9 @@
 -- Marks on the entries of two tables.
 use Rattle.std.proofs.Common.{◌≡◌, ℕ, ◌+◌, ◌<◌, ◌≤◌, Bool, true, false, cond, List, [], ◌∷◌, ◌++◌, length, drop, map, refl, sym, ap, ◌∙◌, arith, append-nil, length-append, length-drop}
-use Rattle.std.specs.Borrow.{Bor}
-use Rattle.std.proofs.lemmas.List.{drop-map, map-append}
-use Rattle.of_table.specs.declared.entry.Entry.{Entry}
-use Rattle.of_table.specs.Entries.{entry_of, flows_of}
-use Rattle.of_table.specs.Table.{FlowEntry}
-use Rattle.of_alike.specs.declared.tables.Move.{Move}
-use Rattle.of_alike.specs.declared.tables.Move.TheVariants.{Both, First, Second}
+use Rattle.std.{specs.Borrow.Bor, proofs.lemmas.List.drop-map, proofs.lemmas.List.map-append}
+use Rattle.of_table.specs.{declared.entry.Entry.Entry, Entries.entry_of, Entries.flows_of, Table.FlowEntry}
 use Rattle.of_alike.specs.SameTables.{IsMove, SameTables, first_marks, says_of, second_marks, without_marked}
+use Rattle.of_alike.specs.{declared.tables.Move.Move, declared.tables.Move.TheVariants.Both, declared.tables.Move.TheVariants.First, declared.tables.Move.TheVariants.Second}
 
 abbrev pub pointed : List (Bor Entry) → List Entry
 pointed refs = map (λ (x : Bor Entry). x.now) refs

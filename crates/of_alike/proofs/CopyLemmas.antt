@@ -1,9 +1,6 @@
 -- Packets with the same work.
 use Rattle.std.proofs.Common.{◌≡◌, List, [], ◌∷◌, map, refl, sym, ap}
-use Rattle.of_symbolic_run.specs.declared.state.SymbolicPacket.{SymbolicPacket}
-use Rattle.of_symbolic_run.specs.declared.state.SymbolicTask.{SymbolicTask}
-use Rattle.of_symbolic_run.specs.declared.state.Work.{Work}
-use Rattle.of_symbolic_run.specs.States.{AreTaskCopies, IsTaskCopy}
+use Rattle.of_symbolic_run.specs.{declared.state.SymbolicPacket.SymbolicPacket, declared.state.SymbolicTask.SymbolicTask, declared.state.Work.Work, States.AreTaskCopies, States.IsTaskCopy}
 
 -- a packet and its work
 pub record TaskKey : Type 0 where

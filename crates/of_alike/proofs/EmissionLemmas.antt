@@ -1,16 +1,10 @@
 -- Over the same ports the same leaves, and the same frames come in.
 use Rattle.std.proofs.Common.{◌≡◌, ℕ, eqb, cond, Bool, true, false, List, [], ◌∷◌, map, Option, Some, None, refl, ap}
-use Rattle.std.specs.Prelude.{not, ◌&&◌, ◌||◌}
-use Rattle.std.specs.Option.{option_map}
+use Rattle.std.specs.{Prelude.not, Prelude.◌&&◌, Prelude.◌||◌, Option.option_map}
 use Rattle.of_wire.specs.declared.limits.TheConstants.{OFPP_ALL, OFPP_CONTROLLER, OFPP_FLOOD, OFPP_IN_PORT}
-use Rattle.of_ports.specs.declared.port.Port.{Port}
-use Rattle.of_ports.specs.Ports.{may_send, other_ports, port_at}
-use Rattle.of_machine.specs.declared.data.Item.TheVariants.{Sent}
-use Rattle.of_machine.specs.declared.data.Packet.{Packet}
-use Rattle.of_machine.specs.Rows.{Emitted, emission, to_port}
-use Rattle.of_machine.specs.TheWorld.{TheWorld}
-use Rattle.of_symbolic_run.specs.PortNumbers.{IsReceivingPort}
-use Rattle.of_symbolic_run.specs.Received.{IsReceivedAt}
+use Rattle.of_ports.specs.{declared.port.Port.Port, Ports.may_send, Ports.other_ports, Ports.port_at}
+use Rattle.of_machine.specs.{declared.data.Item.TheVariants.Sent, declared.data.Packet.Packet, Rows.Emitted, Rows.emission, Rows.to_port, TheWorld.TheWorld}
+use Rattle.of_symbolic_run.specs.{PortNumbers.IsReceivingPort, Received.IsReceivedAt}
 use Rattle.of_alike.specs.SamePorts.{PortKey, SamePorts, port_key}
 
 -- the first port and the others

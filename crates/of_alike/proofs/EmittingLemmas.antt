@@ -1,29 +1,17 @@
 -- What two runs emit, by the actions on the frame.
 use Rattle.std.proofs.Common.{◌≡◌, ℕ, ◌==◌, cond, Bool, true, false, List, [], ◌∷◌, ◌++◌, map, Option, Some, None, refl, sym, ap, subst, ◌∙◌, if◌then◌else◌}
-use Rattle.std.specs.Prelude.{not, ◌||◌}
-use Rattle.std.specs.Option.{IfNone, is_some}
-use Rattle.std.proofs.lemmas.Bool.{eqb-true}
+use Rattle.std.{specs.Prelude.not, specs.Prelude.◌||◌, specs.Option.IfNone, specs.Option.is_some, proofs.lemmas.Bool.eqb-true}
 use Rattle.of_wire.specs.declared.limits.TheConstants.{OFPP_ALL, OFPP_CONTROLLER, OFPP_FLOOD, OFPP_IN_PORT}
 use Rattle.of_wire.specs.declared.reasons.PacketInReason.{PacketInReason}
 use Rattle.of_wire.specs.declared.reasons.PacketInReason.TheVariants as reasons
-use Rattle.of_ports.specs.declared.port.Port.{Port}
-use Rattle.of_ports.specs.Ports.{may_send, port_at}
-use Rattle.of_machine.specs.declared.data.Item.{Item}
-use Rattle.of_machine.specs.declared.data.Item.TheVariants.{Sent}
-use Rattle.of_machine.specs.declared.data.Count.TheVariants.{TxDropped}
+use Rattle.of_ports.specs.{declared.port.Port.Port, Ports.may_send, Ports.port_at}
 use Rattle.of_machine.specs.Rows.{Emitted, empty_emitted, output_reason, packet_in_emitted, to_port}
-use Rattle.of_symbolic_run.specs.declared.frame_set.FrameSet.{FrameSet}
-use Rattle.of_symbolic_run.specs.declared.state.Emission.{Emission}
-use Rattle.of_symbolic_run.specs.declared.state.Emission.TheVariants.{Output}
-use Rattle.of_symbolic_run.specs.declared.state.SymbolicPacket.{SymbolicPacket}
+use Rattle.of_machine.specs.{declared.data.Item.Item, declared.data.Item.TheVariants.Sent, declared.data.Count.TheVariants.TxDropped}
+use Rattle.of_symbolic_run.specs.{declared.frame_set.FrameSet.FrameSet, declared.state.Emission.Emission, declared.state.Emission.TheVariants.Output, declared.state.SymbolicPacket.SymbolicPacket}
 use Rattle.of_symbolic_run.specs.States.{items_for, items_of_emission, packet_for}
-use Rattle.of_alike.specs.declared.alike.Compared.{Compared}
-use Rattle.of_alike.specs.declared.alike.Where.{Where}
-use Rattle.of_alike.specs.declared.alike.Where.TheVariants.{Controller, Port as ByPort}
-use Rattle.of_alike.specs.Alike.{LeavesAlike, sent_by, to_controller}
 use Rattle.of_alike.specs.Emitting.{AlikeIfRest, AreSameAt, AreSamePackets, EmitTheSame, IsSameAt, LeaveAlike, SameOutputs, SendAlike, rewrites_of}
-use Rattle.of_alike.proofs.AlikeLemmas.{sent_front, told_front}
-use Rattle.of_alike.proofs.EmissionLemmas.{same_emission}
+use Rattle.of_alike.specs.{declared.alike.Compared.Compared, declared.alike.Where.Where, declared.alike.Where.TheVariants.Controller, declared.alike.Where.TheVariants.Port as ByPort}
+use Rattle.of_alike.{specs.Alike.LeavesAlike, specs.Alike.sent_by, specs.Alike.to_controller, proofs.AlikeLemmas.sent_front, proofs.AlikeLemmas.told_front, proofs.EmissionLemmas.same_emission}
 
 -- ---- what leaves alike
 

@@ -1,16 +1,12 @@
 -- Which entries a packet hits, in tables of which some entries changed.
 use Rattle.std.proofs.Common.{◌≡◌, ℕ, ◌+◌, ◌≤◌, zero, suc, Bool, true, false, List, [], ◌∷◌, map, Option, Some, None, refl, sym, ap, subst, ◌∙◌, arith}
-use Rattle.std.specs.Prelude.{slice_get}
-use Rattle.std.specs.Option.{option_map}
+use Rattle.std.specs.{Prelude.slice_get, Option.option_map}
 use Rattle.of_layers.specs.declared.field.Field.{Field}
 use Rattle.of_oxm.specs.Relations.{matches_map}
-use Rattle.of_classifier.specs.declared.Row.{Row}
-use Rattle.of_classifier.specs.Rows.{made_row}
-use Rattle.of_classifier.specs.Winner.{Wins, winner_number, winner_of}
-use Rattle.of_classifier.proofs.WinnerLaw.{none_both, wins_both}
+use Rattle.of_classifier.{specs.declared.Row.Row, specs.Rows.made_row, specs.Winner.Wins, specs.Winner.winner_number, specs.Winner.winner_of, proofs.WinnerLaw.none_both, proofs.WinnerLaw.wins_both}
 use Rattle.of_table.specs.Table.{FlowEntry, rows_from, winner_place}
-use Rattle.of_alike.specs.declared.tables.Changed.{Changed}
 use Rattle.of_alike.specs.SameTables.{AreChanged, AreSameHits, IsUnmarkedHit, SameTables, EntrySays, says_of, without_marked}
+use Rattle.of_alike.specs.declared.tables.Changed.{Changed}
 
 -- ---- tables that say the same
 

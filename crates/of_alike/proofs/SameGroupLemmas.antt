@@ -1,24 +1,16 @@
 -- Groups that do the same.
 use Rattle.std.proofs.Common.{◌≡◌, ℕ, zero, suc, eqb, cond, Bool, true, false, List, [], ◌∷◌, length, map, Option, Some, None, refl, sym, ap, ◌∙◌}
-use Rattle.std.proofs.Math.Path.{fun_ext}
 use Rattle.std.specs.Prelude.{not, ◌&&◌, ◌||◌, ◌==◌, nat_lt, position, slice_get}
-use Rattle.std.specs.List.{position_or_len}
-use Rattle.std.specs.List.{list_any, range_with_len}
-use Rattle.std.specs.Option.{option_map, option_map_or, option_to_list}
-use Rattle.std.proofs.lemmas.List.{length-map}
-use Rattle.std.proofs.lemmas.Option.{slice_get-map}
+use Rattle.std.specs.{List.position_or_len, List.list_any, List.range_with_len, Option.option_map, Option.option_map_or, Option.option_to_list}
+use Rattle.std.proofs.{Math.Path.fun_ext, lemmas.List.length-map, lemmas.Option.slice_get-map}
 use Rattle.of_wire.specs.declared.limits.TheConstants.{OFPG_ANY, OFPP_ANY}
-use Rattle.of_ports.specs.declared.port.Port.{Port}
-use Rattle.of_ports.specs.Ports.{is_live, is_live_at, port_at}
-use Rattle.of_groups.specs.declared.bucket.Bucket.{Bucket}
-use Rattle.of_groups.specs.declared.group.Group.{Group}
-use Rattle.of_groups.specs.declared.group.GroupKind.{GroupKind}
+use Rattle.of_ports.specs.{declared.port.Port.Port, Ports.is_live, Ports.is_live_at, Ports.port_at}
+use Rattle.of_groups.specs.Liveness.{chosen, is_live_bucket, is_live_group, is_live_kind, is_live_within, places_of}
+use Rattle.of_groups.specs.{declared.bucket.Bucket.Bucket, declared.group.Group.Group, declared.group.GroupKind.GroupKind}
 use Rattle.of_groups.specs.declared.group.GroupKind.TheVariants.{All, FastFailover, Indirect}
 use Rattle.of_groups.specs.Groups.{bucket_at, find_group}
-use Rattle.of_groups.specs.Liveness.{chosen, is_live_bucket, is_live_group, is_live_kind, is_live_within, places_of}
 use Rattle.of_alike.specs.SameGroups.{BucketKey, GroupKey, SameGroups, bucket_key, group_key}
-use Rattle.of_alike.specs.SamePorts.{PortKey, SamePorts, port_key}
-use Rattle.of_alike.proofs.EmissionLemmas.{same_port_at}
+use Rattle.of_alike.{specs.SamePorts.PortKey, specs.SamePorts.SamePorts, specs.SamePorts.port_key, proofs.EmissionLemmas.same_port_at}
 
 -- ---- the group of a number
 

@@ -1,14 +1,10 @@
 -- Switches that do the same from table 0 on have the same runs.
 use Rattle.std.proofs.Common.{◌≡◌, ℕ, zero, suc, ◌++◌, List, [], ◌∷◌, refl, sym, ap, subst, ◌∙◌, arith}
 use Rattle.of_ports.specs.declared.port.Port.{Port}
-use Rattle.of_machine.specs.TheWorld.{TheWorld}
-use Rattle.of_machine.specs.Rows.{Lookup, Task, entering}
 use Rattle.of_machine.specs.Runs.{Machine, after, first_step, starting, step}
-use Rattle.of_machine.specs.Sound.{IsSound}
-use Rattle.of_symbolic_run.specs.declared.state.SymbolicState.{SymbolicState}
-use Rattle.of_symbolic_run.specs.States.{IsAt, items_for}
-use Rattle.of_alike.specs.Agreeing.{AgreeFrom, AllFrom, TaskFrom}
-use Rattle.of_alike.proofs.Agreeing.{IsOnward, all_both, rows_agree}
+use Rattle.of_machine.specs.{TheWorld.TheWorld, Rows.Lookup, Rows.Task, Rows.entering, Sound.IsSound}
+use Rattle.of_symbolic_run.specs.{declared.state.SymbolicState.SymbolicState, States.IsAt, States.items_for}
+use Rattle.of_alike.{specs.Agreeing.AgreeFrom, specs.Agreeing.AllFrom, specs.Agreeing.TaskFrom, proofs.Agreeing.IsOnward, proofs.Agreeing.all_both, proofs.Agreeing.rows_agree}
 use Rattle.of_alike.proofs.AgreeingRuns.{from_sound}
 
 -- both have the same packets, and gave the same

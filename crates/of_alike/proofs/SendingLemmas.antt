@@ -1,33 +1,21 @@
 -- What is sent by a port, and told to the controller, of a frame that came in by another one.
 use Rattle.std.proofs.Common.{◌≡◌, ℕ, eqb, cond, Bool, true, false, List, [], ◌∷◌, ◌++◌, map, Option, Some, None, filter, refl, sym, ap, subst, ◌∙◌, if◌then◌else◌, arith}
 use Rattle.std.specs.Prelude.{not, nat_lt, ◌&&◌, ◌||◌, IsTrue}
-use Rattle.std.specs.List.{All, AllByRecursion, list_all}
-use Rattle.std.specs.Option.{option_map_or}
 use Rattle.std.proofs.lemmas.Bool.{and_parts, eqb-false, eqb-true, ltb-true, ne_eqb}
-use Rattle.std.proofs.lemmas.List.Elements.{recursion_from_All}
+use Rattle.std.{specs.List.All, specs.List.AllByRecursion, specs.List.list_all, specs.Option.option_map_or, proofs.lemmas.List.Elements.recursion_from_All}
 use Rattle.of_wire.specs.declared.limits.TheConstants.{OFPP_ALL, OFPP_CONTROLLER, OFPP_FLOOD, OFPP_IN_PORT}
 use Rattle.of_actions.specs.Rising.{is_ascending}
-use Rattle.of_ports.specs.declared.port.Port.{Port}
 use Rattle.of_ports.specs.Ports.{may_receive, may_send, number_of_port, other_ports, port_at}
-use Rattle.of_machine.specs.declared.data.Count.TheVariants.{TxDropped}
-use Rattle.of_machine.specs.declared.data.Item.{Item}
-use Rattle.of_machine.specs.declared.data.Item.TheVariants.{Sent}
-use Rattle.of_machine.specs.declared.data.Packet.{Packet}
+use Rattle.of_ports.specs.declared.port.Port.{Port}
 use Rattle.of_machine.specs.Rows.{Emitted, emission, empty_emitted, flooded, output_reason, packet_in_emitted, to_port}
+use Rattle.of_machine.specs.{declared.data.Count.TheVariants.TxDropped, declared.data.Item.Item, declared.data.Item.TheVariants.Sent, declared.data.Packet.Packet}
 use Rattle.of_symbolic.specs.Actions.{frame_of_actions}
-use Rattle.of_symbolic_run.specs.declared.frame_set.FrameSet.{FrameSet}
-use Rattle.of_symbolic_run.specs.declared.state.Emission.{Emission}
-use Rattle.of_symbolic_run.specs.declared.state.Emission.TheVariants.{InvalidTtl, Output}
-use Rattle.of_symbolic_run.specs.FrameSets.{InFrames}
-use Rattle.of_symbolic_run.specs.States.{items_for, items_of_emission, packet_for}
-use Rattle.of_alike.specs.declared.alike.Compared.{Compared}
-use Rattle.of_alike.specs.declared.alike.Compared.TheVariants.{All as AllIsCompared}
-use Rattle.of_alike.specs.declared.alike.Where.TheVariants.{Controller, Port as ByPort}
-use Rattle.of_alike.specs.Alike.{LeavesAlike, sent_by, to_controller}
+use Rattle.of_symbolic_run.specs.{declared.frame_set.FrameSet.FrameSet, declared.state.Emission.Emission, declared.state.Emission.TheVariants.InvalidTtl, declared.state.Emission.TheVariants.Output}
+use Rattle.of_symbolic_run.specs.{FrameSets.InFrames, States.items_for, States.items_of_emission, States.packet_for}
 use Rattle.of_alike.specs.Emitting.{EmitAlikeAt, IsAlikeBy, IsAlikeFrom, LeaveAlike, SendAlikeFrom, emits_at, emitting_at, is_flooding, is_for_controller, may_send_at, output_goes_by, rewrites_of, rewrites_sent, sends_by}
-use Rattle.of_alike.specs.SamePorts.{SamePorts}
-use Rattle.of_alike.proofs.AlikeLemmas.{sent_front, told_front}
-use Rattle.of_alike.proofs.EmissionLemmas.{same_emission}
+use Rattle.of_alike.specs.{declared.alike.Compared.Compared, declared.alike.Compared.TheVariants.All as AllIsCompared}
+use Rattle.of_alike.specs.{declared.alike.Where.TheVariants.Controller, declared.alike.Where.TheVariants.Port as ByPort, Alike.LeavesAlike, Alike.sent_by, Alike.to_controller, SamePorts.SamePorts}
+use Rattle.of_alike.proofs.{AlikeLemmas.sent_front, AlikeLemmas.told_front, EmissionLemmas.same_emission}
 
 -- ---- what is sent to one port
 

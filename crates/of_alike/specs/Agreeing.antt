@@ -3,17 +3,12 @@ use Rattle.std.specs.Prelude.{◌≡◌, ℕ, ◌≤◌, ◌==◌, false, List, 
 use Rattle.std.specs.List.{AllByRecursion}
 use Rattle.of_wire.specs.declared.limits.TheConstants.{OFPP_TABLE}
 use Rattle.of_layers.specs.declared.field.Field.{Field}
-use Rattle.of_actions.specs.declared.action.Action.{Action}
-use Rattle.of_actions.specs.declared.action.Action.TheVariants.{Output}
-use Rattle.of_actions.specs.declared.instruction.Instruction.{Instruction}
 use Rattle.of_actions.specs.declared.instruction.Instruction.TheVariants.{Apply, Clear, Goto, Metadata, Write}
+use Rattle.of_actions.specs.{declared.action.Action.Action, declared.action.Action.TheVariants.Output, declared.instruction.Instruction.Instruction}
 use Rattle.of_table.specs.declared.flow.Flow.{Flow}
-use Rattle.of_machine.specs.declared.data.Packet.{Packet}
-use Rattle.of_machine.specs.TheWorld.{TheWorld}
 use Rattle.of_machine.specs.Rows.{Act, Do, Lookup, RunSet, Task, Work, emission}
-use Rattle.of_symbolic_run.specs.declared.state.SymbolicState.{SymbolicState}
-use Rattle.of_symbolic_run.specs.declared.state.SymbolicTask.{SymbolicTask}
-use Rattle.of_symbolic_run.specs.States.{AreTaskCopies, task_for}
+use Rattle.of_machine.specs.{declared.data.Packet.Packet, TheWorld.TheWorld}
+use Rattle.of_symbolic_run.specs.{declared.state.SymbolicState.SymbolicState, declared.state.SymbolicTask.SymbolicTask, States.AreTaskCopies, States.task_for}
 
 -- two entries do the same with each packet that they match
 pub record DoTheSame (f g : Flow) : Type 0 where

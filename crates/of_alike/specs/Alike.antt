@@ -1,11 +1,7 @@
 -- WHAT LEAVES A SWITCH for a frame, and whether two switches send the same (OpenFlow 1.3.5, 5.1).
 use Rattle.std.specs.Prelude.{◌≡◌, ℕ, ◌==◌, Bool, true, false, List, [], ◌∷◌, filter, if◌then◌else◌}
-use Rattle.of_machine.specs.declared.data.Item.{Item}
-use Rattle.of_machine.specs.declared.data.Item.TheVariants.{PacketIn, Sent}
-use Rattle.of_machine.specs.declared.data.ToController.{ToController}
-use Rattle.of_alike.specs.declared.alike.Compared.{Compared}
-use Rattle.of_alike.specs.declared.alike.Compared.TheVariants.{All}
-use Rattle.of_alike.specs.declared.alike.Where.{Where}
+use Rattle.of_machine.specs.{declared.data.Item.Item, declared.data.Item.TheVariants.PacketIn, declared.data.Item.TheVariants.Sent, declared.data.ToController.ToController}
+use Rattle.of_alike.specs.{declared.alike.Compared.Compared, declared.alike.Compared.TheVariants.All, declared.alike.Where.Where}
 use Rattle.of_alike.specs.declared.alike.Where.TheVariants.{Controller, Port as ByPort}
 
 -- ---- what leaves

@@ -3,21 +3,11 @@ use Rattle.std.specs.Prelude.{◌≡◌, ℕ, ◌==◌, Bool, true, false, not, 
 use Rattle.std.specs.Option.{option_map_or}
 use Rattle.of_wire.specs.declared.limits.TheConstants.{OFPP_ALL, OFPP_CONTROLLER, OFPP_FLOOD, OFPP_IN_PORT}
 use Rattle.of_actions.specs.declared.action.Action.{Action}
-use Rattle.of_ports.specs.declared.port.Port.{Port}
-use Rattle.of_ports.specs.Ports.{may_receive, may_send, port_at}
-use Rattle.of_machine.specs.declared.data.Packet.{Packet}
-use Rattle.of_machine.specs.Rows.{emission}
-use Rattle.of_symbolic_run.specs.declared.frame_set.FrameSet.{FrameSet}
-use Rattle.of_symbolic_run.specs.declared.state.Emission.{Emission}
-use Rattle.of_symbolic_run.specs.declared.state.Emission.TheVariants.{InvalidTtl, Output}
-use Rattle.of_symbolic_run.specs.declared.state.SymbolicPacket.{SymbolicPacket}
-use Rattle.of_symbolic_run.specs.FrameSets.{InFrames}
-use Rattle.of_symbolic_run.specs.States.{items_for, items_of_emission}
-use Rattle.of_symbolic_run.specs.PortNumbers.{IsReceivingPort}
-use Rattle.of_alike.specs.Alike.{LeavesAlike}
-use Rattle.of_alike.specs.SamePorts.{SamePorts}
-use Rattle.of_alike.specs.declared.alike.Compared.{Compared}
-use Rattle.of_alike.specs.declared.alike.Where.{Where}
+use Rattle.of_ports.specs.{declared.port.Port.Port, Ports.may_receive, Ports.may_send, Ports.port_at}
+use Rattle.of_machine.specs.{declared.data.Packet.Packet, Rows.emission}
+use Rattle.of_symbolic_run.specs.{declared.frame_set.FrameSet.FrameSet, declared.state.Emission.Emission, declared.state.Emission.TheVariants.InvalidTtl, declared.state.Emission.TheVariants.Output}
+use Rattle.of_symbolic_run.specs.{declared.state.SymbolicPacket.SymbolicPacket, FrameSets.InFrames, States.items_for, States.items_of_emission, PortNumbers.IsReceivingPort}
+use Rattle.of_alike.specs.{Alike.LeavesAlike, SamePorts.SamePorts, declared.alike.Compared.Compared, declared.alike.Where.Where}
 use Rattle.of_alike.specs.declared.alike.Where.TheVariants.{Controller, Port as ByPort}
 
 -- ---- for all frames

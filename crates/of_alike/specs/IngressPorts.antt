@@ -1,12 +1,9 @@
 -- For contracts of this crate and of of_diff: packets of a region by the port by which they came in (OpenFlow 1.3.5, 5.1 and 7.2.3.7).
 use Rattle.std.specs.Prelude.{◌≡◌, ℕ, true, List, Option, Some}
 use Rattle.std.specs.Global.{Vec}
-use Rattle.of_layers.specs.declared.field.Field.{Field}
-use Rattle.of_layers.specs.declared.field.Field.TheVariants.{InPort}
-use Rattle.of_oxm.specs.declared.match_field.MatchField.{MatchField}
-use Rattle.of_oxm.specs.Relations.{agrees}
-use Rattle.of_regions.specs.declared.region.Region.{Region}
-use Rattle.of_regions.specs.Regions.{InRegion}
+use Rattle.of_layers.specs.{declared.field.Field.Field, declared.field.Field.TheVariants.InPort}
+use Rattle.of_oxm.specs.{declared.match_field.MatchField.MatchField, Relations.agrees}
+use Rattle.of_regions.specs.{declared.region.Region.Region, Regions.InRegion}
 use Rattle.of_symbolic.specs.Parts.{NoneOfMatches}
 
 -- the condition agrees with each packet of the region that came in by this port

@@ -1,9 +1,7 @@
 -- WHAT THE GROUPS OF TWO SWITCHES DO WITH PACKETS (OpenFlow 1.3.5, 5.6).
 use Rattle.std.specs.Prelude.{◌≡◌, ℕ, List, map}
 use Rattle.of_actions.specs.declared.action.Action.{Action}
-use Rattle.of_groups.specs.declared.bucket.Bucket.{Bucket}
-use Rattle.of_groups.specs.declared.group.Group.{Group}
-use Rattle.of_groups.specs.declared.group.GroupKind.{GroupKind}
+use Rattle.of_groups.specs.{declared.bucket.Bucket.Bucket, declared.group.Group.Group, declared.group.GroupKind.GroupKind}
 
 -- its weight and its counters treat no packet otherwise
 pub record BucketKey : Type 0 where

@@ -1,7 +1,6 @@
 -- THE PORTS OF TWO SWITCHES (OpenFlow 1.3.5, 4.1 and 7.2.1).
 use Rattle.std.specs.Prelude.{◌≡◌, ℕ, Bool, List, map}
-use Rattle.of_ports.specs.declared.port.Port.{Port}
-use Rattle.of_ports.specs.Ports.{is_live, may_receive, may_send}
+use Rattle.of_ports.specs.{declared.port.Port.Port, Ports.is_live, Ports.may_receive, Ports.may_send}
 
 -- what a port does with packets, and whether the controller is not told of those that match no entry (OFPPC_NO_PACKET_IN): its addresses, its name, its
 -- counters and its age treat no packet otherwise

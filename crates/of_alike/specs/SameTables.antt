@@ -2,11 +2,8 @@
 use Rattle.std.specs.Prelude.{◌≡◌, ℕ, ◌<◌, Bool, true, false, List, [], ◌∷◌, length, map, Option, Some, None, slice_get, ⊤}
 use Rattle.of_oxm.specs.declared.match_field.MatchField.{MatchField}
 use Rattle.of_actions.specs.declared.instruction.Instruction.{Instruction}
-use Rattle.of_table.specs.Table.{FlowEntry}
-use Rattle.of_table.specs.declared.entry.Entry.{Entry}
-use Rattle.of_table.specs.Entries.{entry_of}
-use Rattle.of_alike.specs.declared.tables.Changed.{Changed}
-use Rattle.of_alike.specs.declared.tables.Move.{Move}
+use Rattle.of_table.specs.{Table.FlowEntry, declared.entry.Entry.Entry, Entries.entry_of}
+use Rattle.of_alike.specs.{declared.tables.Changed.Changed, declared.tables.Move.Move}
 use Rattle.of_alike.specs.declared.tables.Move.TheVariants.{Both, First, Second}
 
 -- what an entry says: its counters, its times and its flags treat no packet otherwise

@@ -1,8 +1,8 @@
 //! Whether two switches send the same.
 ghost use Rattle.std.specs.Prelude.{◌≡◌, ◌≢◌, ◌↔◌, ◌⊎◌, ◌∷◌, ◌<◌, ℕ, [], IfNone, IfOk, IfSome, IsTrue, OnOk, length, true};
 ghost use Rattle.std.specs.List.{Contains};
-ghost use Rattle.of_alike.specs.declared.alike.Where.TheVariants.{Port as ByPort};
 ghost use Rattle.of_alike.specs.Alike.{DiffersAt, IsAlikeAt, LeavesAlike, leaves_at, leaving, sent_by};
+ghost use Rattle.of_alike.specs.declared.alike.Where.TheVariants.{Port as ByPort};
 
 use of_machine::{Item, ToController};
 use std::alloc::{AllocError, Global};

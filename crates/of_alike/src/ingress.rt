@@ -1,8 +1,7 @@
 //! Whether frames of a set came in by a port.
 ghost use Rattle.std.specs.Prelude.{◌≡◌, ◌∷◌, ℕ, List, [], true};
 ghost use Rattle.std.specs.List.{All};
-ghost use Rattle.of_regions.specs.declared.meeting.Meeting.TheVariants.{Apart, Whole};
-ghost use Rattle.of_regions.specs.Meeting.{Meets};
+ghost use Rattle.of_regions.specs.{declared.meeting.Meeting.TheVariants.Apart, declared.meeting.Meeting.TheVariants.Whole, Meeting.Meets};
 ghost use Rattle.of_symbolic_run.specs.FrameSets.{InFrames};
 ghost use Rattle.of_alike.specs.IngressPorts.{HasNoneFrom, MatchesAllFrom};
 

@@ -3,11 +3,8 @@ ghost use Rattle.std.specs.Prelude.{◌≡◌, ◌≢◌, ◌↔◌, ℕ, List, 
 ghost use Rattle.std.specs.List.{All};
 ghost use Rattle.of_actions.specs.Rising.{is_ascending};
 ghost use Rattle.of_ports.specs.Ports.{number_of_port};
-ghost use Rattle.of_symbolic_run.specs.FrameSets.{InFrames};
-ghost use Rattle.of_symbolic_run.specs.States.{items_for};
-ghost use Rattle.of_alike.specs.Alike.{LeavesAlike};
-ghost use Rattle.of_alike.specs.Emitting.{AlikeIfRest, EmitAlikeAt, IsAlikeFrom, LeaveAlike};
-ghost use Rattle.of_alike.specs.declared.alike.Compared.TheVariants.{All as AllIsCompared};
+ghost use Rattle.of_symbolic_run.specs.{FrameSets.InFrames, States.items_for};
+ghost use Rattle.of_alike.specs.{Alike.LeavesAlike, Emitting.AlikeIfRest, Emitting.EmitAlikeAt, Emitting.IsAlikeFrom, Emitting.LeaveAlike, declared.alike.Compared.TheVariants.All as AllIsCompared};
 ghost use Rattle.of_alike.specs.declared.alike.Where.TheVariants.{Controller as AtController};
 
 use crate::alike::{Compared, Where};

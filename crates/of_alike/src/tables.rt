@@ -2,8 +2,8 @@
 ghost use Rattle.std.specs.Prelude.{◌≡◌, ◌↔◌, ◌⊎◌, [], ◌++◌, IfNone, IfOk, IfSome, IsTrue, OnOk, map};
 ghost use Rattle.std.specs.List.{Contains};
 ghost use Rattle.of_table.specs.Entries.{entry_of, flows_of};
-ghost use Rattle.of_alike.specs.declared.tables.Move.TheVariants.{First, Second};
 ghost use Rattle.of_alike.specs.SameTables.{AreChanged, IsMove, SameTables, first_marks, says_of, second_marks};
+ghost use Rattle.of_alike.specs.declared.tables.Move.TheVariants.{First, Second};
 
 use of_actions::{Action, Instruction};
 use of_symbolic_run::listed_entries;

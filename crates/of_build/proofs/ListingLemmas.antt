@@ -1,21 +1,11 @@
 -- The messages that build a configuration, flow by flow, table by table and group by group.
 use Rattle.std.proofs.Common.{◌≡◌, ℕ, ◌+◌, ◌<◌, ◌≤◌, Bool, true, false, cond, List, [], ◌∷◌, ◌++◌, length, drop, get_or, refl, sym, ◌∙◌, ap, subst, append_assoc, add-one, drop-cons, arith}
-use Rattle.std.specs.Prelude.{filter, map, slice_index_or}
-use Rattle.std.specs.List.{AllByRecursion, list_all}
+use Rattle.std.specs.{Prelude.filter, Prelude.map, Prelude.slice_index_or, List.AllByRecursion, List.list_all}
 use Rattle.std.proofs.lemmas.List.{length-append, length-map, get_or-map}
-use Rattle.of_messages.specs.Written.{flow_mod_bytes}
-use Rattle.of_messages.specs.CanonicalGroups.{group_add_bytes}
-use Rattle.of_groups.specs.declared.group.Group.{Group}
-use Rattle.of_groups.specs.Chains.{chain}
-use Rattle.of_groups.specs.Sound.{is_fit_group}
-use Rattle.of_text.specs.declared.flow.FlowText.{FlowText}
-use Rattle.of_text.specs.declared.group.GroupText.{GroupText}
-use Rattle.of_text.specs.Groups.{TextGroup, group_at, groups_at}
-use Rattle.of_text.specs.Flows.{Flow}
-use Rattle.of_text.specs.Kept.{IsEntry}
-use Rattle.of_text.specs.Views.{view, view_flows, view_group, view_groups}
-use Rattle.of_text.specs.Configs.{all_flows}
-use Rattle.of_text.proofs.WriteLemmas.{next_flow}
+use Rattle.of_messages.specs.{Written.flow_mod_bytes, CanonicalGroups.group_add_bytes}
+use Rattle.of_groups.specs.{declared.group.Group.Group, Chains.chain, Sound.is_fit_group}
+use Rattle.of_text.specs.{declared.flow.FlowText.FlowText, declared.group.GroupText.GroupText, Groups.TextGroup, Groups.group_at, Groups.groups_at, Flows.Flow, Kept.IsEntry}
+use Rattle.of_text.{specs.Views.view, specs.Views.view_flows, specs.Views.view_group, specs.Views.view_groups, specs.Configs.all_flows, proofs.WriteLemmas.next_flow}
 use Rattle.of_build.specs.Listing.{add_of, flow_adds, group_adds, new_of, those}
 
 -- ---- flows

@@ -2,8 +2,7 @@
 use Rattle.std.specs.Prelude.{◌≡◌, ℕ, List, [], ◌∷◌, ◌++◌, codes}
 use Rattle.std.specs.List.{flat_map}
 use Rattle.hex.specs.Hex.{encode_lower}
-use Rattle.of_text.specs.Lines.{lines_of}
-use Rattle.of_text.specs.Configs.{Configuration, EncodeConfig}
+use Rattle.of_text.specs.{Lines.lines_of, Configs.Configuration, Configs.EncodeConfig}
 use Rattle.of_build.specs.Listing.{messages_of}
 
 -- the row of a chunk of the controller's bytes

@@ -1,15 +1,10 @@
 -- THE MESSAGES THAT BUILD A CONFIGURATION on a new switch: a controller adds each group by a GROUP_MOD and each flow by a FLOW_MOD.
 use Rattle.std.specs.Prelude.{ℕ, ◌+◌, ◌==◌, Bool, List, [], ◌∷◌, ◌++◌, filter, length, map, if◌then◌else◌}
 use Rattle.of_wire.specs.declared.limits.TheConstants.{OFP_NO_BUFFER, OFPP_ANY, OFPG_ANY}
-use Rattle.of_messages.specs.declared.message.FlowMod.{FlowMod}
-use Rattle.of_messages.specs.declared.message.FlowModCommand.TheVariants.{Add}
-use Rattle.of_messages.specs.declared.group_mod.NewGroup.{NewGroup}
-use Rattle.of_messages.specs.Written.{flow_mod_bytes}
+use Rattle.of_messages.specs.{declared.message.FlowMod.FlowMod, declared.message.FlowModCommand.TheVariants.Add, declared.group_mod.NewGroup.NewGroup, Written.flow_mod_bytes}
 use Rattle.of_messages.specs.CanonicalGroups.{group_add_bytes}
 use Rattle.of_groups.specs.Chains.{chain}
-use Rattle.of_text.specs.Groups.{TextGroup, bucket_text, buckets_of, groups_at}
-use Rattle.of_text.specs.Flows.{Flow}
-use Rattle.of_text.specs.Configs.{Configuration, all_flows}
+use Rattle.of_text.specs.{Groups.TextGroup, Groups.bucket_text, Groups.buckets_of, Groups.groups_at, Flows.Flow, Configs.Configuration, Configs.all_flows}
 
 -- the FLOW_MOD that adds a flow (OpenFlow 1.3.5, 7.3.4.1): no buffer, any port and any group (all ones), masks of 0
 abbrev pub add_of : Flow → FlowMod

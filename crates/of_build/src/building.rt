@@ -1,6 +1,5 @@
 //! Event files that build a configuration.
-ghost use Rattle.std.specs.Prelude.{◌≡◌, ◌++◌, IfOk, OnOk};
-ghost use Rattle.std.specs.List.{flat_map};
+ghost use Rattle.std.specs.{Prelude.◌≡◌, Prelude.◌++◌, Prelude.IfOk, Prelude.OnOk, List.flat_map};
 ghost use Rattle.hex.specs.Hex.{encode_lower};
 ghost use Rattle.of_build.specs.Building.{build_text, chunk_line};
 

@@ -1,15 +1,9 @@
 //! The messages that build a configuration.
 ghost use Rattle.std.specs.Prelude.{◌≡◌, ◌<◌, ◌≤◌, ◌+◌, ◌^◌, ◌++◌, true, IfOk, OnOk, length, map};
 ghost use Rattle.std.specs.List.{AllByRecursion, list_all};
-ghost use Rattle.of_groups.specs.Buckets.{are_fit};
-ghost use Rattle.of_groups.specs.Chains.{chain};
-ghost use Rattle.of_groups.specs.Sound.{is_fit_group};
+ghost use Rattle.of_groups.specs.{Buckets.are_fit, Chains.chain, Sound.is_fit_group};
 ghost use Rattle.of_messages.specs.Written.{flow_mod_bytes};
-ghost use Rattle.of_text.specs.Configs.{all_flows};
-ghost use Rattle.of_text.specs.Groups.{buckets_of, group_rows, groups_at};
-ghost use Rattle.of_text.specs.Kept.{IsEntry};
-ghost use Rattle.of_text.specs.Rows.{Fits};
-ghost use Rattle.of_text.specs.Views.{view, view_flows, view_group, view_groups};
+ghost use Rattle.of_text.specs.{Configs.all_flows, Groups.buckets_of, Groups.group_rows, Groups.groups_at, Kept.IsEntry, Rows.Fits, Views.view, Views.view_flows, Views.view_group, Views.view_groups};
 ghost use Rattle.of_build.specs.Listing.{add_of, flow_adds, group_adds, in_turn, messages_of, new_group_text, of_length, those};
 
 use of_groups::{Group, chain_lengths};

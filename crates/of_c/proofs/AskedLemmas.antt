@@ -3,13 +3,9 @@ use Rattle.std.proofs.Common.{◌≡◌, ℕ, Bool, List, [], map, Ok, refl, sub
 use Rattle.std.specs.List.{flat_map}
 use Rattle.of_switch.specs.State.{State}
 use Rattle.of_files.specs.declared.tables.FileTables.{FileTables}
-use Rattle.of_frame_words.specs.declared.why.NoFrame.{NoFrame}
-use Rattle.of_frame_words.specs.Conditions.{conditions_in_words}
-use Rattle.of_frame_words.specs.Refusals.{FrameStops}
-use Rattle.of_require.specs.declared.line.Line.{Line}
-use Rattle.of_require.specs.RequirementFiles.{requirements_in, view_line}
-use Rattle.of_c.specs.Calls.{ArePathsTold, status_of_no_words}
-use Rattle.of_c.specs.Requiring.{AreAnswered, AreTablesWith, IsRequired, named_by_line}
+use Rattle.of_frame_words.specs.{declared.why.NoFrame.NoFrame, Conditions.conditions_in_words, Refusals.FrameStops}
+use Rattle.of_require.specs.{declared.line.Line.Line, RequirementFiles.requirements_in, RequirementFiles.view_line}
+use Rattle.of_c.specs.{Calls.ArePathsTold, Calls.status_of_no_words, Requiring.AreAnswered, Requiring.AreTablesWith, Requiring.IsRequired, Requiring.named_by_line}
 
 pub no_match : (file : List ℕ) (port : ℕ) (within : List ℕ) (to : ℕ) (each : Bool) (steps : ℕ) (words : Bool) (why : NoFrame) (status : ℕ) (text : List ℕ)
     → FrameStops (conditions_in_words within) why → status ≡ status_of_no_words why → text ≡ [] → ArePathsTold file port within to each steps words status 0 text

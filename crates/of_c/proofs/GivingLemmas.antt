@@ -1,40 +1,19 @@
 -- What a call gives, from what its parts say.
 use Rattle.std.proofs.Common.{◌≡◌, false, ◌∙◌, ℕ, List, [], Some, None, Result, Bool, length, map, ap, sym, refl, subst, inl}
-use Rattle.std.specs.Global.{Vec}
-use Rattle.std.specs.List.{AllByRecursion}
-use Rattle.of_values.specs.declared.origins.Origin.{Origin}
-use Rattle.of_values.specs.Origins.{view_origins}
-use Rattle.of_datapath.specs.declared.datapath.Datapath.{Datapath}
-use Rattle.of_datapath.specs.Datapath.{Forwarding, world_of}
-use Rattle.of_datapath.specs.Numbers.{forwarding_of}
+use Rattle.std.specs.{Global.Vec, List.AllByRecursion}
+use Rattle.of_values.specs.{declared.origins.Origin.Origin, Origins.view_origins}
+use Rattle.of_datapath.specs.{declared.datapath.Datapath.Datapath, Datapath.Forwarding, Datapath.world_of, Numbers.forwarding_of}
 use Rattle.of_switch.specs.State.{State}
-use Rattle.of_replay.specs.declared.event_file.Ended.{Ended}
-use Rattle.of_replay.specs.Ended.{status_of}
-use Rattle.of_replay.specs.FileRuns.{Writes, ended_as}
-use Rattle.of_replay.specs.Play.{PrintsLines}
-use Rattle.of_replay.specs.Told.{Known, Left}
-use Rattle.of_files.specs.declared.tables.FileTables.{FileTables}
-use Rattle.of_files.specs.declared.switches.PortList.{PortList}
-use Rattle.of_files.specs.Switches.{AreFlowsOf, ArePortsOfBoth, FileContents, switch_said}
-use Rattle.of_report.specs.declared.reporting.Form.{Form}
-use Rattle.of_report.specs.Files.{IsCheckReport}
+use Rattle.of_replay.specs.{declared.event_file.Ended.Ended, Ended.status_of, FileRuns.Writes, FileRuns.ended_as, Play.PrintsLines, Told.Known, Told.Left}
+use Rattle.of_files.specs.{declared.tables.FileTables.FileTables, declared.switches.PortList.PortList, Switches.AreFlowsOf, Switches.ArePortsOfBoth, Switches.FileContents, Switches.switch_said}
+use Rattle.of_report.specs.{declared.reporting.Form.Form, Files.IsCheckReport}
 use Rattle.of_alike.specs.declared.alike.Compared.{Compared}
-use Rattle.of_diff_report.specs.declared.hits.FileFlows.{FileFlows}
-use Rattle.of_diff_report.specs.declared.writing.DiffForm.{DiffForm}
-use Rattle.of_diff_report.specs.declared.writing.DiffVerdict.{DiffVerdict}
-use Rattle.of_diff_report.specs.DiffFiles.{IsDiffReport}
-use Rattle.of_diff_report.specs.DiffWords.{other_limits}
-use Rattle.of_paths_report.specs.declared.asked.Asked.{Asked}
-use Rattle.of_paths_report.specs.declared.writing.PathsForm.{PathsForm}
-use Rattle.of_paths_report.specs.declared.writing.PathsVerdict.{PathsVerdict}
-use Rattle.of_paths_report.specs.PathsFiles.{IsPathsReport}
-use Rattle.of_require.specs.declared.answers.Answer.{Answer as Found}
-use Rattle.of_require.specs.declared.line.Line.{Line}
-use Rattle.of_require.specs.Answers.{IsFoundAbout, worst_of}
-use Rattle.of_c.specs.declared.answer.Answer.{Answer}
+use Rattle.of_diff_report.specs.{declared.hits.FileFlows.FileFlows, declared.writing.DiffForm.DiffForm, declared.writing.DiffVerdict.DiffVerdict, DiffFiles.IsDiffReport, DiffWords.other_limits}
+use Rattle.of_paths_report.specs.{declared.asked.Asked.Asked, declared.writing.PathsForm.PathsForm, declared.writing.PathsVerdict.PathsVerdict, PathsFiles.IsPathsReport}
+use Rattle.of_require.specs.{declared.answers.Answer.Answer as Found, declared.line.Line.Line, Answers.IsFoundAbout, Answers.worst_of}
 use Rattle.of_c.specs.Answers.{AreBetween, AreSwitchesOf, AreTablesOf, Gives, IsSwitchOf, line_at_fault, with_front}
 use Rattle.of_c.specs.Calls.{AreFlowsGiven, ArePathsTold, IsChecked, IsCompared, IsPrinted, IsWanted, diff_form, paths_form, report_form, status_of_difference, status_of_found, status_of_paths, status_with}
-use Rattle.of_c.specs.Requiring.{AreAnswered, further_text, status_of_both}
+use Rattle.of_c.specs.{declared.answer.Answer.Answer, Requiring.AreAnswered, Requiring.further_text, Requiring.status_of_both}
 
 pub printed : (text_of : List (List ℕ) → List ℕ) (events : List ℕ) (a : Answer) (old new : List ℕ) (ended : Ended) (left : Known) (ends : ℕ) (text reader : List ℕ) (before : ℕ) (first : List ℕ) → PrintsLines text_of ended (Left (Some reader)) left before ends (Some first) (Some text)
     → reader ≡ events → before ≡ 0 → first ≡ [] → a.status ≡ status_of ended → a.line ≡ line_at_fault ended → a.length ≡ length text → new ≡ with_front text old → Gives (IsPrinted text_of events) a old new

@@ -1,21 +1,14 @@
 -- WHAT A CALLER IN C GETS: a text in a buffer of its own, the status that the command has, and the line that is at fault.
 use Rattle.std.specs.Prelude.{◌≡◌, ◌⊎◌, ◌++◌, ℕ, Bool, true, List, [], ◌∷◌, Option, Some, None, length, take, drop}
 use Rattle.of_text.specs.declared.assembling.TextFault.TheVariants.{Syntax, Refused}
-use Rattle.of_import.specs.declared.import.ImportError.{ImportError}
+use Rattle.of_import.specs.{declared.import.ImportError.ImportError, declared.kept.LineRefusal.LineRefusal, declared.parsed_lines.LineFaults.LineFaults}
 use Rattle.of_import.specs.declared.import.ImportError.TheVariants as import
-use Rattle.of_import.specs.declared.kept.LineRefusal.{LineRefusal}
-use Rattle.of_import.specs.declared.parsed_lines.LineFaults.{LineFaults}
 use Rattle.of_ports.specs.Ports.{has_port}
 use Rattle.of_switch.specs.State.{State}
-use Rattle.of_replay.specs.declared.event_file.Ended.{Ended}
-use Rattle.of_replay.specs.declared.event_file.Ended.TheVariants.{BadRow, Text}
-use Rattle.of_replay.specs.Ended.{status_of}
-use Rattle.of_files.specs.declared.tables.FileTables.{FileTables}
-use Rattle.of_files.specs.declared.switches.NoContents.{NoContents}
-use Rattle.of_files.specs.declared.switches.NoContents.TheVariants as no
-use Rattle.of_files.specs.declared.switches.PortList.{PortList}
-use Rattle.of_files.specs.Contents.{content_of}
+use Rattle.of_replay.specs.{declared.event_file.Ended.Ended, declared.event_file.Ended.TheVariants.BadRow, declared.event_file.Ended.TheVariants.Text, Ended.status_of}
 use Rattle.of_files.specs.Switches.{AreContents, AreFlowsOf, ArePortsOfBoth, FileContents, HasNoContents, DescribesSwitch, switch_said, whole_mode}
+use Rattle.of_files.specs.{declared.tables.FileTables.FileTables, declared.switches.NoContents.NoContents, declared.switches.PortList.PortList, Contents.content_of}
+use Rattle.of_files.specs.declared.switches.NoContents.TheVariants as no
 use Rattle.of_c.specs.declared.answer.Answer.{Answer}
 
 -- as much of a text as there is room for goes to the front of a buffer

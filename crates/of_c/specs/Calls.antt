@@ -5,45 +5,27 @@ use Rattle.of_values.specs.Origins.{view_origins}
 use Rattle.of_ovs_lines.specs.declared.mode.Mode.{Mode}
 use Rattle.of_import_report.specs.Answers.{IsAnswer}
 use Rattle.of_switch.specs.State.{State}
-use Rattle.of_replay.specs.declared.event_file.Ended.{Ended}
-use Rattle.of_replay.specs.Ended.{status_of}
-use Rattle.of_replay.specs.FileRuns.{Writes, ended_as, is_text}
+use Rattle.of_replay.specs.{declared.event_file.Ended.Ended, Ended.status_of, FileRuns.Writes, FileRuns.ended_as, FileRuns.is_text, Play.PrintsLines, Told.Known, Told.Left}
 use Rattle.of_files.specs.declared.tables.FileTables.{FileTables}
-use Rattle.of_trace.specs.declared.form.Form.TheVariants.{Plain}
-use Rattle.of_trace.specs.declared.form.Output.{Output}
+use Rattle.of_trace.specs.{declared.form.Form.TheVariants.Plain, declared.form.Output.Output, Files.trace_on}
 use Rattle.of_trace.specs.declared.form.Output.TheVariants as output
-use Rattle.of_trace.specs.Files.{trace_on}
-use Rattle.of_report.specs.declared.reporting.Form.{Form}
+use Rattle.of_report.specs.{declared.reporting.Form.Form, Files.IsCheckReport}
 use Rattle.of_report.specs.declared.reporting.Form.TheVariants as form
-use Rattle.of_report.specs.Files.{IsCheckReport}
 use Rattle.of_alike.specs.declared.alike.Compared.{Compared}
 use Rattle.of_alike.specs.declared.alike.Compared.TheVariants as compared
-use Rattle.of_diff_report.specs.declared.hits.FileFlows.{FileFlows}
-use Rattle.of_diff_report.specs.declared.writing.DiffForm.{DiffForm}
+use Rattle.of_diff_report.specs.{declared.hits.FileFlows.FileFlows, declared.writing.DiffForm.DiffForm, declared.writing.DiffVerdict.DiffVerdict, DiffFiles.IsDiffReport, DiffWords.other_limits}
 use Rattle.of_diff_report.specs.declared.writing.DiffForm.TheVariants as diff_forms
-use Rattle.of_diff_report.specs.declared.writing.DiffVerdict.{DiffVerdict}
 use Rattle.of_diff_report.specs.declared.writing.DiffVerdict.TheVariants as verdict
-use Rattle.of_diff_report.specs.DiffFiles.{IsDiffReport}
-use Rattle.of_diff_report.specs.DiffWords.{other_limits}
 use Rattle.of_wire.specs.declared.limits.TheConstants.{OFPP_ANY, OFPP_CONTROLLER}
-use Rattle.of_frame_words.specs.declared.why.NoFrame.{NoFrame}
+use Rattle.of_frame_words.specs.{declared.why.NoFrame.NoFrame, Conditions.conditions_in_words, Frames.frame_in_words, Said.WordRefusal, Refusals.FrameStops}
 use Rattle.of_frame_words.specs.declared.why.NoFrame.TheVariants as no_frame
-use Rattle.of_frame_words.specs.Conditions.{conditions_in_words}
-use Rattle.of_frame_words.specs.Frames.{frame_in_words}
-use Rattle.of_frame_words.specs.Said.{WordRefusal}
-use Rattle.of_frame_words.specs.Refusals.{FrameStops}
 use Rattle.of_paths.specs.declared.destination.Destination.{Destination}
 use Rattle.of_paths.specs.declared.destination.Destination.TheVariants.{Controller, Nothing, Port}
 use Rattle.of_paths.specs.declared.path.Merging.{Merging}
 use Rattle.of_paths.specs.declared.path.Merging.TheVariants as merging
-use Rattle.of_paths_report.specs.declared.asked.Asked.{Asked}
-use Rattle.of_paths_report.specs.declared.writing.PathsForm.{PathsForm}
+use Rattle.of_paths_report.specs.{declared.asked.Asked.Asked, declared.writing.PathsForm.PathsForm, declared.writing.PathsVerdict.PathsVerdict, PathsFiles.IsPathsReport}
 use Rattle.of_paths_report.specs.declared.writing.PathsForm.TheVariants as paths_forms
-use Rattle.of_paths_report.specs.declared.writing.PathsVerdict.{PathsVerdict}
 use Rattle.of_paths_report.specs.declared.writing.PathsVerdict.TheVariants as paths_verdict
-use Rattle.of_paths_report.specs.PathsFiles.{IsPathsReport}
-use Rattle.of_replay.specs.Play.{PrintsLines}
-use Rattle.of_replay.specs.Told.{Known, Left}
 use Rattle.of_c.specs.Answers.{line_at_fault, has_port_asked, AreSwitchesOf, AreTablesOf, IsOutOfMemory, IsSwitchOf, IsUnread}
 
 -- 5 where all is well, but ports are named that the switch does not have

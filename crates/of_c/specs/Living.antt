@@ -1,9 +1,7 @@
 -- A SWITCH THAT LIVES between the calls of a program, and what a call on it gives: what `replay` prints for the row of its event (docs/EVENTS.md).
 use Rattle.std.specs.Prelude.{◌≡◌, ◌⊎◌, ℕ, List, [], Option, Some, None}
-use Rattle.of_switch.specs.declared.event.Event.{Event}
-use Rattle.of_switch.specs.State.{State, start}
-use Rattle.of_replay.specs.Output.{report_text}
-use Rattle.of_replay.specs.RowTexts.{row_happened}
+use Rattle.of_switch.specs.{declared.event.Event.Event, State.State, State.start}
+use Rattle.of_replay.specs.{Output.report_text, RowTexts.row_happened}
 use Rattle.of_c.specs.Answers.{IsOutOfMemory}
 
 -- a new one, if there is memory for it

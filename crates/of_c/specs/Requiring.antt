@@ -4,31 +4,19 @@ use Rattle.std.specs.List.{AllByRecursion, flat_map}
 use Rattle.of_values.specs.Origins.{view_origins}
 use Rattle.of_datapath.specs.Datapath.{world_of}
 use Rattle.of_switch.specs.State.{State}
-use Rattle.of_replay.specs.declared.event_file.Ended.{Ended}
-use Rattle.of_replay.specs.Ended.{status_of}
-use Rattle.of_replay.specs.FileRuns.{Writes, ended_as}
-use Rattle.of_files.specs.declared.tables.FileTables.{FileTables}
-use Rattle.of_files.specs.Contents.{content_of}
-use Rattle.of_files.specs.NamedPorts.{missing_ports, named_by_field, named_ports, ports_with}
+use Rattle.of_replay.specs.{declared.event_file.Ended.Ended, Ended.status_of, FileRuns.Writes, FileRuns.ended_as}
 use Rattle.of_files.specs.Switches.{AreContents, AreFlowsOf, FileContents, Run, Tables, ports_named, ports_of_switch, switch_said, whole_mode}
+use Rattle.of_files.specs.{declared.tables.FileTables.FileTables, Contents.content_of, NamedPorts.missing_ports, NamedPorts.named_by_field, NamedPorts.named_ports, NamedPorts.ports_with}
 use Rattle.of_report.specs.Files.{IsCheckReport}
-use Rattle.of_paths.specs.declared.destination.Destination.{Destination}
-use Rattle.of_paths.specs.declared.destination.Destination.TheVariants.{Port}
-use Rattle.of_require.specs.declared.answers.Answer.{Answer}
-use Rattle.of_require.specs.declared.deciding.Verdict.{Verdict}
-use Rattle.of_require.specs.declared.deciding.Verdict.TheVariants.{Fails, Holds, Undecided}
-use Rattle.of_require.specs.declared.line.Line.{Line}
-use Rattle.of_require.specs.declared.refusal.NoRequirement.{NoRequirement}
-use Rattle.of_require.specs.declared.refusal.NoRequirement.TheVariants.{NoMemory, Refused}
-use Rattle.of_require.specs.declared.refusal.NoRequirements.{NoRequirements}
-use Rattle.of_require.specs.declared.requirement.Demand.{Demand}
+use Rattle.of_paths.specs.{declared.destination.Destination.Destination, declared.destination.Destination.TheVariants.Port}
+use Rattle.of_require.specs.{declared.answers.Answer.Answer, declared.deciding.Verdict.Verdict}
+use Rattle.of_require.specs.{declared.deciding.Verdict.TheVariants.Fails, declared.deciding.Verdict.TheVariants.Holds, declared.deciding.Verdict.TheVariants.Undecided, declared.line.Line.Line}
+use Rattle.of_require.specs.{declared.refusal.NoRequirement.NoRequirement, declared.refusal.NoRequirement.TheVariants.NoMemory, declared.refusal.NoRequirement.TheVariants.Refused}
+use Rattle.of_require.specs.{declared.refusal.NoRequirements.NoRequirements, declared.requirement.Demand.Demand}
 use Rattle.of_require.specs.declared.requirement.Demand.TheVariants.{Has, LeavesBy, LeavesOnlyBy, PassesTable}
-use Rattle.of_require.specs.Answers.{IsFoundAbout, worst_of}
-use Rattle.of_require.specs.RequirementFiles.{FileStops, requirements_in, view_line}
-use Rattle.of_require.specs.RequirementsJson.{requirements_member}
+use Rattle.of_require.specs.{Answers.IsFoundAbout, Answers.worst_of, RequirementFiles.FileStops, RequirementFiles.requirements_in, RequirementFiles.view_line, RequirementsJson.requirements_member}
 use Rattle.of_require.specs.Words.{requirements_words}
-use Rattle.of_c.specs.Answers.{IsOutOfMemory, IsUnread}
-use Rattle.of_c.specs.Calls.{report_form, status_with}
+use Rattle.of_c.specs.{Answers.IsOutOfMemory, Answers.IsUnread, Calls.report_form, Calls.status_with}
 
 -- ---- the ports that requirements name: those of a match on IN_PORT, and those of places
 

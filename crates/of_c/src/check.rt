@@ -1,9 +1,8 @@
 //! Reports on flow tables.
 ghost use Rattle.std.specs.Prelude.{◌≡◌, [], None, IfErr, IfOk};
-ghost use Rattle.of_files.specs.Contents.{content_of};
 ghost use Rattle.of_files.specs.Switches.{AreFlowsOf, HasNoContents, DescribesSwitch, view_contents, whole_mode};
-ghost use Rattle.of_c.specs.Answers.{AreTablesOf, Gives};
-ghost use Rattle.of_c.specs.Calls.{IsChecked, report_form as form_for, status_of_found as status_for};
+ghost use Rattle.of_files.specs.Contents.{content_of};
+ghost use Rattle.of_c.specs.{Answers.AreTablesOf, Answers.Gives, Calls.IsChecked, Calls.report_form as form_for, Calls.status_of_found as status_for};
 
 use crate::answer::{Answer, Outcome, give, sink, unread};
 use crate::switch::Lookups;

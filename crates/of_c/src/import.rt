@@ -1,7 +1,6 @@
 //! Tables of Open vSwitch.
 ghost use Rattle.std.specs.Prelude.{◌≡◌};
-ghost use Rattle.of_c.specs.Answers.{Gives};
-ghost use Rattle.of_c.specs.Calls.{IsImported, status_of_left_out as status_for};
+ghost use Rattle.of_c.specs.{Answers.Gives, Calls.IsImported, Calls.status_of_left_out as status_for};
 
 use crate::answer::{Answer, NO_MEMORY, Outcome, give};
 use of_import_report::import_as_json;

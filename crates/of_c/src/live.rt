@@ -1,11 +1,8 @@
 //! A switch that lives between calls, and what happens to it.
 ghost use Rattle.std.specs.Prelude.{◌≡◌, [], IfOk, None, Some};
 ghost use Rattle.of_switch.specs.declared.event.Event.{Event};
-ghost use Rattle.of_replay.specs.Output.{report_text};
-ghost use Rattle.of_replay.specs.Rows.{row_of_line, with_bytes};
-ghost use Rattle.of_replay.specs.RowTexts.{row_happened};
-ghost use Rattle.of_c.specs.Answers.{Gives, with_front};
-ghost use Rattle.of_c.specs.Living.{IsNew, IsLiveRow, IsLiveStep};
+ghost use Rattle.of_replay.specs.{Output.report_text, Rows.row_of_line, Rows.with_bytes, RowTexts.row_happened};
+ghost use Rattle.of_c.specs.{Answers.Gives, Answers.with_front, Living.IsNew, Living.IsLiveRow, Living.IsLiveStep};
 
 use crate::answer::{Answer, BAD_FILE, NO_MEMORY, Outcome, give};
 use crate::switch::Lookups;

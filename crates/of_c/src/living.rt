@@ -1,16 +1,11 @@
 //! Calls on a living switch, which is in memory of the caller.
 //!
 //! The caller lends that memory to each call: what a call owns there is the switch before it, and what it leaves there is the switch after it.
-ghost use Rattle.std.specs.Prelude.{◌≡◌, Option, Some};
-ghost use Rattle.std.specs.Borrow.{sem};
-ghost use Rattle.std.specs.Mem.{type_size};
-ghost use Rattle.std.specs.Ptr.{points_to, uninit_at};
-ghost use Rattle.of_switch.specs.declared.event.Event.{Event};
-ghost use Rattle.of_switch.specs.State.{State};
+ghost use Rattle.std.specs.{Prelude.◌≡◌, Prelude.Option, Prelude.Some, Borrow.sem, Mem.type_size, Ptr.points_to, Ptr.uninit_at};
+ghost use Rattle.of_switch.specs.{declared.event.Event.Event, State.State};
 ghost use Rattle.of_replay.specs.Rows.{row_of_line};
 ghost use Rattle.of_c.specs.contracts.live.Live as of_live;
-ghost use Rattle.of_c.specs.Answers.{Gives};
-ghost use Rattle.of_c.specs.Living.{IsNew, IsLiveRow, IsLiveStep};
+ghost use Rattle.of_c.specs.{Answers.Gives, Living.IsNew, Living.IsLiveRow, Living.IsLiveStep};
 
 use crate::answer::Answer;
 use crate::live::{Live, bytes_in, end, frame_in, moment_in, row_in};

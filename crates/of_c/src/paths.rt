@@ -1,10 +1,9 @@
 //! Paths of the frames of a switch.
 ghost use Rattle.std.specs.Prelude.{◌≡◌, [], IfErr, IfOk};
 ghost use Rattle.of_regions.specs.Conditions.{AreConditions};
-ghost use Rattle.of_frame_words.specs.Conditions.{conditions_in_words};
-ghost use Rattle.of_frame_words.specs.Refusals.{FrameStops};
-ghost use Rattle.of_c.specs.Answers.{Gives};
+ghost use Rattle.of_frame_words.specs.{Conditions.conditions_in_words, Refusals.FrameStops};
 ghost use Rattle.of_c.specs.Calls.{ArePathsTold, IsWanted, has_place as has_place_of, merging_of as merging_for, paths_form as form_for, place_asked as place_for, port_asked as port_for, status_of_paths as status_for};
+ghost use Rattle.of_c.specs.Answers.{Gives};
 
 use crate::answer::{Answer, NO_PORT, Outcome, give, sink, unread};
 use crate::switch::{Lookups, has_port_asked, switch_in};

@@ -1,12 +1,9 @@
 //! Runs of event files.
 ghost use Rattle.std.specs.Prelude.{◌≡◌, []};
 ghost use Rattle.of_switch.specs.State.{start};
-ghost use Rattle.of_replay.specs.Output.{printed_from};
-ghost use Rattle.of_replay.specs.Rows.{rows_of_lines};
-ghost use Rattle.of_replay.specs.RowTexts.{told};
+ghost use Rattle.of_replay.specs.{Output.printed_from, Rows.rows_of_lines, RowTexts.told};
 ghost use Rattle.of_explain.specs.RowObjects.{explained_json};
-ghost use Rattle.of_c.specs.Answers.{Gives};
-ghost use Rattle.of_c.specs.Calls.{IsPrinted};
+ghost use Rattle.of_c.specs.{Answers.Gives, Calls.IsPrinted};
 
 use crate::answer::{Answer, give, outcome_of, sink};
 use crate::switch::Lookups;

@@ -1,11 +1,10 @@
 //! Requirements of the switch of a file.
 ghost use Rattle.std.specs.Prelude.{◌≡◌, ◌++◌, [], IfErr, IfOk, OnOk};
 ghost use Rattle.std.specs.List.{flat_map};
-ghost use Rattle.of_files.specs.Contents.{content_of};
-ghost use Rattle.of_files.specs.NamedPorts.{named_by_field, ports_with};
 ghost use Rattle.of_files.specs.Switches.{AreFlowsOf, HasNoContents, ports_named, view_contents, whole_mode};
-ghost use Rattle.of_c.specs.Answers.{Gives};
+ghost use Rattle.of_files.specs.{Contents.content_of, NamedPorts.named_by_field, NamedPorts.ports_with};
 ghost use Rattle.of_c.specs.Requiring.{AreAnswered, AreTablesWith, DescribesWith, IsRequired, further_text, line_of_refused, missing_with, named_by_line, named_by_place, places_demanded as places_in, status_of_both as status_for, status_of_refused};
+ghost use Rattle.of_c.specs.Answers.{Gives};
 
 use crate::answer::{Answer, BAD_FILE, NO_MEMORY, Outcome, give, sink, unread};
 use crate::check::{Tables, form_of};

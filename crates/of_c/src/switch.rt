@@ -1,7 +1,6 @@
 //! The switch of a file.
 ghost use Rattle.std.specs.Prelude.{◌≡◌, IfErr, IfOk, None};
-ghost use Rattle.of_files.specs.Contents.{content_of};
-ghost use Rattle.of_files.specs.Switches.{HasNoContents, whole_mode};
+ghost use Rattle.of_files.specs.{Contents.content_of, Switches.HasNoContents, Switches.whole_mode};
 ghost use Rattle.of_c.specs.Answers.{IsSwitchOf, has_port_asked as has_port_of};
 
 use of_cache::Cached;

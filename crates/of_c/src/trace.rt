@@ -1,7 +1,6 @@
 //! Traces.
 ghost use Rattle.std.specs.Prelude.{◌≡◌, []};
-ghost use Rattle.of_c.specs.Answers.{Gives};
-ghost use Rattle.of_c.specs.Calls.{IsTraced, output_of as output_for, status_with as with_status};
+ghost use Rattle.of_c.specs.{Answers.Gives, Calls.IsTraced, Calls.output_of as output_for, Calls.status_with as with_status};
 
 use crate::answer::{Answer, NO_PORT, Outcome, give, sink, unread};
 use crate::switch::{has_port_asked, switch_in};

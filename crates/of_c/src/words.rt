@@ -1,7 +1,6 @@
 //! Frames in words.
 ghost use Rattle.std.specs.Prelude.{◌≡◌};
-ghost use Rattle.of_c.specs.Answers.{Gives};
-ghost use Rattle.of_c.specs.Calls.{IsFrameTold, status_of_no_words as status_without};
+ghost use Rattle.of_c.specs.{Answers.Gives, Calls.IsFrameTold, Calls.status_of_no_words as status_without};
 
 use crate::answer::{Answer, BAD_FILE, NO_MEMORY, Outcome, give};
 use of_frame_words::{NoFrame, read_frame};

@@ -1,13 +1,9 @@
 -- The priority of a winner, by its number.
 use Rattle.std.proofs.Common.{◌≡◌, ℕ, zero, suc, Bool, true, false, cond, eqb, not, ◌&&◌, ◌||◌, List, [], ◌∷◌, Option, Some, None, refl, sym, ◌∙◌, ap, subst}
-use Rattle.std.specs.Prelude.{find, slice_get, option_map}
-use Rattle.std.proofs.lemmas.Bool.{eq-eqb, eqb-true}
+use Rattle.std.{specs.Prelude.find, specs.Prelude.slice_get, specs.Prelude.option_map, proofs.lemmas.Bool.eq-eqb, proofs.lemmas.Bool.eqb-true}
 use Rattle.of_layers.specs.declared.field.Field.{Field}
 use Rattle.of_wire.specs.Numbered.{is_used, is_distinct}
-use Rattle.of_classifier.specs.declared.Row.{Row}
-use Rattle.of_classifier.specs.Rows.{row_number, row_priority, priority_of}
-use Rattle.of_classifier.specs.Winner.{winner_of, winner_number}
-use Rattle.of_classifier.specs.Scanning.{pair_of}
+use Rattle.of_classifier.specs.{declared.Row.Row, Rows.row_number, Rows.row_priority, Rows.priority_of, Winner.winner_of, Winner.winner_number, Scanning.pair_of}
 use Rattle.of_classifier.proofs.WinnerLaw.{wins_both}
 
 or_true : (a : Bool) → (a || true) ≡ true

@@ -1,32 +1,18 @@
 -- The entries and the rows of a cached classifier, changed together.
 use Rattle.std.proofs.Common.{◌≡◌, ℕ, ◌-◌, arith, true, length, Bool, not, List, [], ◌∷◌, ◌++◌, take, Option, Some, None, refl, sym, ◌∙◌, ap, subst, inl, inr, ◌⊎◌, ⊎_elim}
 use Rattle.std.specs.Prelude.{filter, ◌&&◌, ◌==◌, option_map, Result, Ok, Err, OnOk}
-use Rattle.std.proofs.lemmas.Bool.{eqb-true}
-use Rattle.std.specs.List.{Contains}
-use Rattle.lru.specs.LruCache.{LruCache}
+use Rattle.std.{specs.List.Contains, proofs.lemmas.Bool.eqb-true}
 use Rattle.lru.proofs.Splits.{Contains-cons, Contains-head, Contains-middle, Contains-nil, Contains-with}
+use Rattle.lru.specs.LruCache.{LruCache}
 use Rattle.of_layers.specs.declared.field.Field.{Field}
-use Rattle.of_headers.specs.declared.key.FieldKey.{FieldKey}
-use Rattle.of_headers.specs.FieldMap.{value, seen}
+use Rattle.of_headers.specs.{declared.key.FieldKey.FieldKey, FieldMap.value, FieldMap.seen}
 use Rattle.of_wire.specs.Numbered.{without, moved_to_end}
-use Rattle.of_oxm.specs.declared.match_field.MatchField.{MatchField}
-use Rattle.of_oxm.specs.declared.masks.FieldMask.{FieldMask}
-use Rattle.of_oxm.specs.NormalForm.{IsMatch}
-use Rattle.of_oxm.specs.Masks.{looked_at, value_of, mask_at, Agree}
-use Rattle.of_classifier.specs.declared.Row.{Row}
-use Rattle.of_classifier.specs.Rows.{row_number, made_row}
-use Rattle.of_classifier.specs.Winner.{winner_of, winner_number}
-use Rattle.of_classifier.specs.Scanning.{pair_of}
-use Rattle.of_cache.specs.declared.region.Region.{Region}
-use Rattle.of_cache.specs.declared.cause.Cause.TheVariants.{Answers, Added}
-use Rattle.of_cache.specs.Regions.{AnsweredRegion, IsRegion, meets_seen, region_of}
-use Rattle.of_cache.specs.Kept.{IsSoundRegion, AreSoundRegions, is_beaten, not_beaten}
-use Rattle.of_cache.specs.Causes.{goes, staying}
-use Rattle.of_cache.specs.Finding.{ComesFirst, IsHit, NoneHolds, AreFound}
-use Rattle.of_cache.specs.Listed.{AreListed}
-use Rattle.of_cache.proofs.Winning.{of_filter}
-use Rattle.of_cache.proofs.Staying.{stays_added, stays_removed, stays_renewed, fresh_right}
-use Rattle.of_cache.proofs.Splitting.{of_stored}
+use Rattle.of_oxm.specs.{declared.match_field.MatchField.MatchField, declared.masks.FieldMask.FieldMask, NormalForm.IsMatch, Masks.looked_at, Masks.value_of, Masks.mask_at, Masks.Agree}
+use Rattle.of_classifier.specs.{declared.Row.Row, Rows.row_number, Rows.made_row, Winner.winner_of, Winner.winner_number, Scanning.pair_of}
+use Rattle.of_cache.specs.{declared.region.Region.Region, declared.cause.Cause.TheVariants.Answers, declared.cause.Cause.TheVariants.Added}
+use Rattle.of_cache.specs.{Regions.AnsweredRegion, Regions.IsRegion, Regions.meets_seen, Regions.region_of, Kept.IsSoundRegion, Kept.AreSoundRegions, Kept.is_beaten, Kept.not_beaten}
+use Rattle.of_cache.specs.{Causes.goes, Causes.staying, Finding.ComesFirst, Finding.IsHit, Finding.NoneHolds, Finding.AreFound, Listed.AreListed}
+use Rattle.of_cache.proofs.{Winning.of_filter, Staying.stays_added, Staying.stays_removed, Staying.stays_renewed, Staying.fresh_right, Splitting.of_stored}
 
 abbrev Rows : Type 0
 Rows = List AnsweredRegion

@@ -1,26 +1,15 @@
 -- Whatever a history leaves of the rows, they are right.
 use Rattle.std.proofs.Common.{◌≡◌, ℕ, ◌-◌, not, List, [], ◌∷◌, ◌++◌, take, Option, sym, ◌∙◌, ap, subst, inl, inr, ◌⊎◌, ⊎_elim}
-use Rattle.std.specs.Prelude.{◌==◌}
-use Rattle.std.specs.List.{Contains}
-use Rattle.lru.proofs.CallerLemmas.{Contains-take}
-use Rattle.lru.proofs.Splits.{Contains-cons, Contains-head, Contains-tail, Contains-nil}
+use Rattle.std.specs.{Prelude.◌==◌, List.Contains}
+use Rattle.lru.proofs.{CallerLemmas.Contains-take, Splits.Contains-cons, Splits.Contains-head, Splits.Contains-tail, Splits.Contains-nil}
 use Rattle.of_layers.specs.declared.field.Field.{Field}
 use Rattle.of_headers.specs.FieldMap.{seen}
 use Rattle.of_wire.specs.Numbered.{without, only, moved_to_end}
-use Rattle.of_oxm.specs.NormalForm.{IsMatch}
-use Rattle.of_oxm.specs.Masks.{mask_at, Agree}
-use Rattle.of_classifier.specs.declared.Row.{Row}
-use Rattle.of_classifier.specs.Rows.{row_number, made_row}
-use Rattle.of_classifier.specs.Winner.{winner_of}
-use Rattle.of_classifier.specs.Scanning.{pair_of}
-use Rattle.of_cache.specs.Regions.{AnsweredRegion, IsRegion}
-use Rattle.of_cache.specs.Kept.{IsSoundRegion, AreSoundRegions}
-use Rattle.of_cache.specs.Finding.{IsAdded}
+use Rattle.of_oxm.specs.{NormalForm.IsMatch, Masks.mask_at, Masks.Agree}
+use Rattle.of_classifier.{specs.declared.Row.Row, specs.Rows.row_number, specs.Rows.made_row, specs.Winner.winner_of, specs.Scanning.pair_of, proofs.Alike.agree_by}
 use Rattle.of_cache.specs.Histories.{CacheCall, Add, Take, Renew, LookUp, entries_after, answer_of_call, answers_of, LooksUp, Calls, AnswersCalls, AreMatches, IsOfMatch, AreOfMatches, Decide}
-use Rattle.of_classifier.proofs.Alike.{agree_by}
-use Rattle.of_cache.proofs.Winning.{of_filter}
-use Rattle.of_cache.proofs.Changing.{moved_within, hit_is_winner}
-use Rattle.of_cache.proofs.Staying.{stays_added, stays_removed, stays_renewed, fresh_right}
+use Rattle.of_cache.{specs.Regions.AnsweredRegion, specs.Regions.IsRegion, specs.Kept.IsSoundRegion, specs.Kept.AreSoundRegions, specs.Finding.IsAdded, proofs.Winning.of_filter}
+use Rattle.of_cache.proofs.{Changing.moved_within, Changing.hit_is_winner, Staying.stays_added, Staying.stays_removed, Staying.stays_renewed, Staying.fresh_right}
 
 -- ---- the entries stay matches
 

@@ -1,23 +1,16 @@
 -- The list of the masks of the rows, where rows change.
 use Rattle.std.proofs.Common.{◌≡◌, ℕ, suc, zero, ◌-◌, ◌<◌, ◌≤◌, Bool, true, false, cond, List, [], ◌∷◌, ◌++◌, length, take, slice_get, Option, Some, None, refl, sym, ◌∙◌, ap, subst, inl, inr, ◌⊎◌, ⊎_elim, arith}
 use Rattle.std.specs.Prelude.{filter, ◌||◌, Result, Ok, Err, OnOk, IfOk}
-use Rattle.std.specs.Option.{option_map_or}
-use Rattle.std.specs.Map.{lookup}
-use Rattle.std.specs.List.{Contains, IsDistinct, AllByRecursion, list_any}
-use Rattle.std.specs.Cmp.{IsEquivalence, both_ways}
+use Rattle.std.specs.{Option.option_map_or, Map.lookup, List.Contains, List.IsDistinct, List.AllByRecursion, List.list_any, Cmp.IsEquivalence, Cmp.both_ways}
 use Rattle.std.proofs.lemmas.List.Elements.{Contains-append_left, Contains-push_cases}
 use Rattle.std.proofs.lemmas.Map.Keys.{IsDistinct-push, IsDistinct-head, IsDistinct-tail, IsDistinct-cons}
 use Rattle.lru.specs.LruCache.{LruCache, IsValid, displaced, lru_cache, put_entries}
 use Rattle.lru.proofs.Splits.{Contains-cons, Contains-head, Contains-tail, Contains-nil, Contains-middle, Contains-without}
 use Rattle.of_layers.specs.declared.field.Field.{Field}
 use Rattle.of_oxm.specs.declared.masks.FieldMask.{FieldMask}
-use Rattle.of_cache.specs.declared.region.Region.{Region}
-use Rattle.of_cache.specs.Regions.{AnsweredRegion}
-use Rattle.of_cache.specs.Finding.{ComesFirst}
 use Rattle.of_cache.specs.Listed.{AreListed, AreMasks, has_row_with_mask, is_same_mask, is_same_region, with_mask}
-use Rattle.of_cache.proofs.Winning.{of_filter}
 use Rattle.of_cache.proofs.Splitting.{equal_masks, any_there, mask_itself, put_first, some_has, used_listed}
-use Rattle.of_cache.proofs.Changing.{moved_within}
+use Rattle.of_cache.{specs.declared.region.Region.Region, specs.Regions.AnsweredRegion, specs.Finding.ComesFirst, proofs.Winning.of_filter, proofs.Changing.moved_within}
 
 -- ---- masks that are the same
 

@@ -1,29 +1,16 @@
 -- A match and a region that have a field map in common.
 use Rattle.std.proofs.Common.{◌≡◌, ℕ, ◌≤◌, Bool, true, false, cond, ◌&&◌, List, [], ◌∷◌, Option, Some, None, refl, sym, ◌∙◌, ap, subst, arith}
 use Rattle.std.specs.Prelude.{nat_eq, bit_and, bit_or, find, IfSome, ◌==◌}
-use Rattle.std.specs.Bool.{Decides}
-use Rattle.std.specs.Int.{bit_at}
-use Rattle.std.specs.List.{list_all}
-use Rattle.std.specs.Option.{option_eq, option_map}
-use Rattle.std.proofs.lemmas.Bool.{eqb-true, eq-eqb}
-use Rattle.std.proofs.lemmas.Nat.{and_le_r}
-use Rattle.std.proofs.lemmas.Nat.Bits.{bit_at_and, bit_at_or, same_from_bits}
-use Rattle.of_layers.specs.declared.field.Field.{Field}
-use Rattle.of_layers.specs.Fields.{number_of, field_at, all_fields, ones_of}
-use Rattle.of_layers.proofs.Table.{field_at-number_of}
-use Rattle.of_headers.specs.declared.key.FieldKey.{FieldKey}
+use Rattle.std.{specs.Bool.Decides, specs.Int.bit_at, specs.List.list_all, specs.Option.option_eq, specs.Option.option_map, proofs.lemmas.Bool.eqb-true, proofs.lemmas.Bool.eq-eqb}
+use Rattle.std.proofs.{lemmas.Nat.and_le_r, lemmas.Nat.Bits.bit_at_and, lemmas.Nat.Bits.bit_at_or, lemmas.Nat.Bits.same_from_bits}
+use Rattle.of_layers.{specs.declared.field.Field.Field, specs.Fields.number_of, specs.Fields.field_at, specs.Fields.all_fields, specs.Fields.ones_of, proofs.Table.field_at-number_of}
+use Rattle.of_headers.{specs.declared.key.FieldKey.FieldKey, specs.FieldMap.value, specs.FieldMap.seen, proofs.SameFields.same_key, proofs.SameFields.equal_keys, proofs.SameFields.key_itself}
 use Rattle.of_headers.specs.contracts.key.FieldKeyPartialEq.TheImpl as the_key
-use Rattle.of_headers.specs.FieldMap.{value, seen}
-use Rattle.of_headers.proofs.SameFields.{same_key, equal_keys, key_itself}
-use Rattle.of_oxm.specs.declared.match_field.MatchField.{MatchField}
-use Rattle.of_oxm.specs.declared.masks.FieldMask.{FieldMask}
-use Rattle.of_oxm.specs.NormalForm.{IsKept, IsMatch}
-use Rattle.of_oxm.specs.Relations.{IsWithinBits, bits_looked_at, matches_map}
-use Rattle.of_oxm.specs.Masks.{first_at, looked_at, value_of, mask_at}
-use Rattle.of_oxm.proofs.Seen.{matched_exactly, seen_matched}
-use Rattle.of_oxm.proofs.Joined.{covered, found_if, at_most, kept_within}
-use Rattle.of_cache.specs.declared.region.Region.{Region}
+use Rattle.of_oxm.specs.{declared.match_field.MatchField.MatchField, declared.masks.FieldMask.FieldMask, NormalForm.IsKept, NormalForm.IsMatch}
+use Rattle.of_oxm.specs.{Relations.IsWithinBits, Relations.bits_looked_at, Relations.matches_map, Masks.first_at, Masks.looked_at, Masks.value_of, Masks.mask_at}
+use Rattle.of_oxm.proofs.{Seen.matched_exactly, Seen.seen_matched, Joined.covered, Joined.found_if, Joined.at_most, Joined.kept_within}
 use Rattle.of_cache.specs.Regions.{Holds, IsRegion, IsWithin, agrees_in, meets_seen, meets}
+use Rattle.of_cache.specs.declared.region.Region.{Region}
 
 -- ---- all fields
 

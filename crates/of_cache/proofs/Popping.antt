@@ -1,30 +1,15 @@
 -- Rows that are dropped by their region.
 use Rattle.std.proofs.Common.{◌≡◌, ℕ, ◌+◌, ◌<◌, Bool, true, false, cond, not, ◌&&◌, ◌||◌, List, [], ◌∷◌, ◌++◌, length, get_or, take, Option, Some, refl, sym, ◌∙◌, ap, subst, ⊎_elim}
-use Rattle.std.specs.Prelude.{filter, map}
-use Rattle.std.specs.List.{Contains, AllByRecursion, IsDistinct, list_any}
-use Rattle.std.specs.Option.{option_map_or}
-use Rattle.std.specs.Map.{keys_of, lookup, remove_entry}
-use Rattle.std.proofs.lemmas.Map.Keys.{IsDistinct-head, IsDistinct-tail}
-use Rattle.std.proofs.lemmas.List.{take_more}
-use Rattle.std.proofs.lemmas.List.Elements.{Contains-get_or}
+use Rattle.std.specs.{Prelude.filter, Prelude.map, List.Contains, List.AllByRecursion, List.IsDistinct, List.list_any, Option.option_map_or, Map.keys_of, Map.lookup, Map.remove_entry, Bool.Decides}
+use Rattle.std.proofs.{lemmas.Map.Keys.IsDistinct-head, lemmas.Map.Keys.IsDistinct-tail, lemmas.List.take_more, lemmas.List.Elements.Contains-get_or}
 use Rattle.lru.proofs.Splits.{Contains-head, Contains-tail, Contains-cons, Contains-nil}
 use Rattle.of_layers.specs.declared.field.Field.{Field}
-use Rattle.of_headers.specs.declared.key.FieldKey.{FieldKey}
-use Rattle.of_headers.specs.FieldMap.{value, seen}
-use Rattle.of_oxm.specs.declared.masks.FieldMask.{FieldMask}
-use Rattle.of_oxm.specs.Masks.{mask_at}
-use Rattle.of_cache.specs.declared.region.Region.{Region}
+use Rattle.of_headers.specs.{declared.key.FieldKey.FieldKey, FieldMap.value, FieldMap.seen}
+use Rattle.of_oxm.specs.{declared.masks.FieldMask.FieldMask, Masks.mask_at}
 use Rattle.of_cache.specs.Regions.{AnsweredRegion, Holds, IsRegion, IsWithin, meets_seen}
-use Rattle.of_cache.specs.Kept.{is_beaten}
-use Rattle.of_cache.specs.declared.cause.Cause.{Cause}
-use Rattle.of_cache.specs.Causes.{goes, staying}
-use Rattle.of_cache.specs.declared.cause.Cause.TheVariants.{Added}
-use Rattle.of_cache.proofs.Staying.{twice_same}
-use Rattle.of_cache.specs.Listed.{AreListed, is_same_region, is_same_mask}
-use Rattle.of_cache.specs.SameRegion.{equal_regions, region_itself}
-use Rattle.std.specs.Bool.{Decides}
-use Rattle.of_cache.proofs.Meeting.{two_tests, met_holds, holds_met}
-use Rattle.of_cache.proofs.Splitting.{held_is, equal_masks, mask_itself, or_true}
+use Rattle.of_cache.specs.{declared.region.Region.Region, Kept.is_beaten, declared.cause.Cause.Cause, Causes.goes, Causes.staying, declared.cause.Cause.TheVariants.Added}
+use Rattle.of_cache.{specs.Listed.AreListed, specs.Listed.is_same_region, specs.Listed.is_same_mask, specs.SameRegion.equal_regions, specs.SameRegion.region_itself, proofs.Staying.twice_same}
+use Rattle.of_cache.proofs.{Meeting.two_tests, Meeting.met_holds, Meeting.holds_met, Splitting.held_is, Splitting.equal_masks, Splitting.mask_itself, Splitting.or_true}
 
 -- ---- lists that are filtered
 

@@ -1,24 +1,15 @@
 -- The row of a region among the rows, and look-ups that find none.
 use Rattle.std.proofs.Common.{◌≡◌, ℕ, ◌+◌, ◌-◌, ◌<◌, Bool, true, false, cond, List, [], ◌∷◌, ◌++◌, length, get_or, take, Option, Some, None, refl, sym, ◌∙◌, ap, subst, inl, inr, slice_get, ◌⊎◌, ⊎_elim}
 use Rattle.std.specs.Prelude.{unwrap_or, Result, Ok, Err, OnOk, OnErr, ◌||◌, filter}
-use Rattle.std.specs.List.{Contains, list_any}
-use Rattle.std.specs.Option.{option_map_or}
-use Rattle.std.specs.Map.{lookup, lookup_entry, remove_entry}
-use Rattle.std.proofs.lemmas.List.{take_more}
+use Rattle.std.{specs.List.Contains, specs.List.list_any, specs.Option.option_map_or, specs.Map.lookup, specs.Map.lookup_entry, specs.Map.remove_entry, proofs.lemmas.List.take_more}
 use Rattle.std.proofs.lemmas.List.Elements.{Contains-push_cases}
-use Rattle.lru.specs.LruCache.{LruCache, lru_cache, promoted, put_entries}
 use Rattle.lru.proofs.Splits.{Contains-cons, Contains-head, Contains-tail, Contains-nil, Contains-middle}
-use Rattle.lru.proofs.CallerLemmas.{Contains-take}
+use Rattle.lru.{specs.LruCache.LruCache, specs.LruCache.lru_cache, specs.LruCache.promoted, specs.LruCache.put_entries, proofs.CallerLemmas.Contains-take}
 use Rattle.of_layers.specs.declared.field.Field.{Field}
-use Rattle.of_headers.specs.FieldMap.{value, seen}
-use Rattle.of_headers.proofs.SameFields.{same_key, equal_keys, key_itself}
+use Rattle.of_headers.{specs.FieldMap.value, specs.FieldMap.seen, proofs.SameFields.same_key, proofs.SameFields.equal_keys, proofs.SameFields.key_itself}
 use Rattle.of_oxm.specs.contracts.masks.FieldMaskPartialEq.TheImpl as the_mask
-use Rattle.of_oxm.specs.declared.masks.FieldMask.{FieldMask}
-use Rattle.of_oxm.specs.Masks.{mask_at}
-use Rattle.of_cache.specs.declared.region.Region.{Region}
-use Rattle.of_cache.specs.Regions.{AnsweredRegion, Holds}
-use Rattle.of_cache.specs.Finding.{IsHit, NoneHolds}
-use Rattle.of_cache.specs.Listed.{is_same_region, is_same_mask, AreListed}
+use Rattle.of_oxm.specs.{declared.masks.FieldMask.FieldMask, Masks.mask_at}
+use Rattle.of_cache.specs.{declared.region.Region.Region, Regions.AnsweredRegion, Regions.Holds, Finding.IsHit, Finding.NoneHolds, Listed.is_same_region, Listed.is_same_mask, Listed.AreListed}
 use Rattle.of_cache.specs.SameRegion.{equal_regions, region_itself}
 
 -- ---- found

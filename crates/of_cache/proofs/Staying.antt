@@ -1,26 +1,15 @@
 -- Rows stay right where entries change.
 use Rattle.std.proofs.Common.{◌≡◌, ℕ, Bool, true, false, cond, eqb, not, List, [], ◌∷◌, ◌++◌, Option, Some, None, refl, sym, ◌∙◌, ap, subst, arith}
-use Rattle.std.specs.Prelude.{nat_lt, nat_le, bit_and, ◌&&◌}
-use Rattle.std.proofs.lemmas.Nat.Bits.{bit_at_and, same_from_bits}
-use Rattle.std.proofs.lemmas.Bool.{eq-eqb}
-use Rattle.std.proofs.lemmas.Bool.Decides.{nat_tests}
+use Rattle.std.{specs.Prelude.nat_lt, specs.Prelude.nat_le, specs.Prelude.bit_and, specs.Prelude.◌&&◌, proofs.lemmas.Nat.Bits.bit_at_and, proofs.lemmas.Nat.Bits.same_from_bits}
+use Rattle.std.proofs.{lemmas.Bool.eq-eqb, lemmas.Bool.Decides.nat_tests}
 use Rattle.of_layers.specs.declared.field.Field.{Field}
-use Rattle.of_headers.specs.declared.key.FieldKey.{FieldKey}
-use Rattle.of_headers.specs.FieldMap.{value, seen}
-use Rattle.of_wire.specs.Numbered.{without, moved_to_end}
-use Rattle.of_wire.proofs.HighestLemmas.{better}
-use Rattle.of_oxm.specs.declared.match_field.MatchField.{MatchField}
-use Rattle.of_oxm.specs.declared.masks.FieldMask.{FieldMask}
-use Rattle.of_oxm.specs.NormalForm.{IsMatch}
-use Rattle.of_oxm.specs.Masks.{mask_at, Agree}
-use Rattle.of_classifier.specs.declared.Row.{Row}
-use Rattle.of_classifier.specs.Rows.{row_number, row_priority, made_row}
-use Rattle.of_classifier.specs.Winner.{is_matching, winner_of, winner_number}
-use Rattle.of_classifier.specs.Scanning.{pair_of}
-use Rattle.of_cache.specs.Regions.{AnsweredRegion, IsRegion, meets, region_of}
+use Rattle.of_headers.specs.{declared.key.FieldKey.FieldKey, FieldMap.value, FieldMap.seen}
+use Rattle.of_wire.{specs.Numbered.without, specs.Numbered.moved_to_end, proofs.HighestLemmas.better}
+use Rattle.of_oxm.specs.{declared.match_field.MatchField.MatchField, declared.masks.FieldMask.FieldMask, NormalForm.IsMatch, Masks.mask_at, Masks.Agree}
+use Rattle.of_classifier.specs.{declared.Row.Row, Rows.row_number, Rows.row_priority, Rows.made_row, Winner.is_matching, Winner.winner_of, Winner.winner_number, Scanning.pair_of}
 use Rattle.of_cache.specs.Kept.{IsSoundRegion, AreSoundRegions, is_answer, is_beaten, not_answering, not_beaten}
-use Rattle.of_cache.proofs.Winning.{winner-push, winner-without, winner-moved, of_filter}
-use Rattle.of_cache.proofs.Meeting.{met}
+use Rattle.of_cache.specs.Regions.{AnsweredRegion, IsRegion, meets, region_of}
+use Rattle.of_cache.proofs.{Winning.winner-push, Winning.winner-without, Winning.winner-moved, Winning.of_filter, Meeting.met}
 
 -- ---- an entry is added
 

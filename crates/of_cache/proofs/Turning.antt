@@ -1,15 +1,9 @@
 -- The rows of a cache, of which the last one comes first or goes.
 use Rattle.std.proofs.Common.{◌≡◌, ℕ, ◌+◌, ◌<◌, ◌≤◌, Bool, true, false, cond, not, List, [], ◌∷◌, ◌++◌, length, Option, Some, refl, sym, ◌∙◌, ap, subst, arith, append-nil, append_assoc, length-append}
-use Rattle.std.specs.Prelude.{filter, ◌||◌}
-use Rattle.std.specs.List.{AllByRecursion, IsDistinct, list_any}
-use Rattle.std.specs.Option.{option_map_or}
-use Rattle.std.specs.Map.{keys_of, lookup_entry, remove_entry}
+use Rattle.std.specs.{Prelude.filter, Prelude.◌||◌, List.AllByRecursion, List.IsDistinct, List.list_any, Option.option_map_or, Map.keys_of, Map.lookup_entry, Map.remove_entry}
 use Rattle.std.proofs.lemmas.Map.Keys.{IsDistinct-head, IsDistinct-tail}
-use Rattle.lru.specs.LruCache.{promoted}
-use Rattle.lru.proofs.Splits.{cut_last, last_from}
-use Rattle.of_cache.specs.declared.region.Region.{Region}
-use Rattle.of_cache.specs.Listed.{is_same_region}
-use Rattle.of_cache.specs.SameRegion.{equal_regions, region_itself}
+use Rattle.lru.{specs.LruCache.promoted, proofs.Splits.cut_last, proofs.Splits.last_from}
+use Rattle.of_cache.specs.{declared.region.Region.Region, Listed.is_same_region, SameRegion.equal_regions, SameRegion.region_itself}
 
 -- ---- the last row comes first
 

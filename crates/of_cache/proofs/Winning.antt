@@ -1,18 +1,11 @@
 -- The winner where an entry is added, removed or renewed.
 use Rattle.std.proofs.Common.{◌≡◌, ℕ, ◌≤◌, ◌<◌, Bool, true, false, cond, eqb, not, List, [], ◌∷◌, ◌++◌, Option, Some, None, refl, sym, ◌∙◌, ap, subst, arith, suc, ⊎_elim, append-nil, append_assoc}
-use Rattle.std.specs.Prelude.{filter, nat_le, slice_get, ⊤}
-use Rattle.std.specs.List.{Contains}
-use Rattle.std.proofs.lemmas.Bool.{eqb-true}
-use Rattle.std.proofs.lemmas.Bool.Decides.{nat_tests}
 use Rattle.std.proofs.lemmas.List.Elements.{filter-append, All-contains, All-contains_itself, All-filter, filter_passes}
+use Rattle.std.{specs.Prelude.filter, specs.Prelude.nat_le, specs.Prelude.slice_get, specs.Prelude.⊤, specs.List.Contains, proofs.lemmas.Bool.eqb-true, proofs.lemmas.Bool.Decides.nat_tests}
 use Rattle.lru.proofs.Splits.{Contains-head, Contains-tail, Contains-cons, Contains-nil}
 use Rattle.of_layers.specs.declared.field.Field.{Field}
-use Rattle.of_wire.specs.Highest.{oldest_highest}
-use Rattle.of_wire.specs.Numbered.{without, only, moved_to_end}
-use Rattle.of_wire.proofs.HighestLemmas.{better, oldest_more}
-use Rattle.of_classifier.specs.declared.Row.{Row}
-use Rattle.of_classifier.specs.Rows.{row_number, row_priority}
-use Rattle.of_classifier.specs.Winner.{is_matching, matching, winner_of, winner_number}
+use Rattle.of_wire.{specs.Highest.oldest_highest, specs.Numbered.without, specs.Numbered.only, specs.Numbered.moved_to_end, proofs.HighestLemmas.better, proofs.HighestLemmas.oldest_more}
+use Rattle.of_classifier.specs.{declared.Row.Row, Rows.row_number, Rows.row_priority, Winner.is_matching, Winner.matching, Winner.winner_of, Winner.winner_number}
 use Rattle.of_classifier.proofs.WinnerLaw.{wins_both, none_both}
 
 -- ---- one more entry

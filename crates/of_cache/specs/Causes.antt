@@ -2,9 +2,7 @@
 use Rattle.std.specs.Prelude.{Bool, not, ◌&&◌, List, filter}
 use Rattle.of_headers.specs.FieldMap.{value}
 use Rattle.of_oxm.specs.Masks.{mask_at}
-use Rattle.of_cache.specs.declared.cause.Cause.{Cause}
-use Rattle.of_cache.specs.declared.cause.Cause.TheVariants.{Answers, Added}
-use Rattle.of_cache.specs.Regions.{AnsweredRegion, meets_seen}
+use Rattle.of_cache.specs.{declared.cause.Cause.Cause, declared.cause.Cause.TheVariants.Answers, declared.cause.Cause.TheVariants.Added, Regions.AnsweredRegion, Regions.meets_seen}
 use Rattle.of_cache.specs.Kept.{is_answer, is_beaten}
 
 abbrev pub goes : Cause → AnsweredRegion → Bool

@@ -1,9 +1,7 @@
 -- What a hasher becomes that is fed bytes: a number of 128 bits is mixed in as a whole.
 use Rattle.std.specs.Prelude.{ℕ, ◌==◌, if◌then◌else◌, List, length}
-use Rattle.std.specs.List.{fold}
-use Rattle.std.specs.Int.{w128, from_le_bytes}
-use Rattle.of_headers.specs.declared.mixer.Mixer.{Mixer}
-use Rattle.of_headers.specs.Digest.{mixed}
+use Rattle.std.specs.{List.fold, Int.w128, Int.from_le_bytes}
+use Rattle.of_headers.specs.{declared.mixer.Mixer.Mixer, Digest.mixed}
 
 unfoldable pub each_written : Mixer → List ℕ → Mixer
 each_written m bytes = fold mixed m bytes

@@ -1,8 +1,7 @@
 -- What a contract sees of a cached classifier: its entries, oldest first, its rows, the most recently used first, and how many there may be.
 use Rattle.std.specs.Prelude.{ℕ, List, option_map}
 use Rattle.of_classifier.specs.declared.Row.{Row}
-use Rattle.of_cache.specs.declared.region.Row.{Row as CacheRow}
-use Rattle.of_cache.specs.Regions.{AnsweredRegion}
+use Rattle.of_cache.specs.{declared.region.Row.Row as CacheRow, Regions.AnsweredRegion}
 
 pub record HeldRows : Type 0 where
   pub content : List Row

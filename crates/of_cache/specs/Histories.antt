@@ -2,17 +2,10 @@
 use Rattle.std.specs.Prelude.{◌≡◌, ◌⊎◌, ℕ, List, [], ◌∷◌, ◌++◌, Option, None, ⊤}
 use Rattle.std.specs.List.{Contains}
 use Rattle.of_layers.specs.declared.field.Field.{Field}
-use Rattle.of_oxm.specs.declared.match_field.MatchField.{MatchField}
-use Rattle.of_oxm.specs.Masks.{Agree}
-use Rattle.of_oxm.specs.NormalForm.{IsMatch}
+use Rattle.of_oxm.specs.{declared.match_field.MatchField.MatchField, Masks.Agree, NormalForm.IsMatch}
 use Rattle.of_wire.specs.Numbered.{without, moved_to_end}
-use Rattle.of_classifier.specs.declared.Row.{Row}
-use Rattle.of_classifier.specs.Rows.{row_number, made_row}
-use Rattle.of_classifier.specs.Winner.{winner_of}
-use Rattle.of_classifier.specs.Scanning.{pair_of}
-use Rattle.of_cache.specs.Regions.{AnsweredRegion}
-use Rattle.of_cache.specs.Kept.{not_answering, not_beaten}
-use Rattle.of_cache.specs.Finding.{NoneHolds, IsHit, IsAdded}
+use Rattle.of_classifier.specs.{declared.Row.Row, Rows.row_number, Rows.made_row, Winner.winner_of, Scanning.pair_of}
+use Rattle.of_cache.specs.{Regions.AnsweredRegion, Kept.not_answering, Kept.not_beaten, Finding.NoneHolds, Finding.IsHit, Finding.IsAdded}
 
 -- an entry is added under a number, is removed, or becomes the youngest; or the entry is looked up that wins for a field map
 pub data CacheCall : Type 0 where

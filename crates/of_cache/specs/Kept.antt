@@ -3,9 +3,7 @@ use Rattle.std.specs.Prelude.{◌≡◌, ℕ, Bool, false, true, not, ◌==◌, 
 use Rattle.std.specs.List.{Contains}
 use Rattle.of_layers.specs.declared.field.Field.{Field}
 use Rattle.of_oxm.specs.declared.match_field.MatchField.{MatchField}
-use Rattle.of_classifier.specs.declared.Row.{Row}
-use Rattle.of_classifier.specs.Winner.{winner_of}
-use Rattle.of_classifier.specs.Scanning.{pair_of}
+use Rattle.of_classifier.specs.{declared.Row.Row, Winner.winner_of, Scanning.pair_of}
 use Rattle.of_cache.specs.Regions.{AnsweredRegion, Holds, IsRegion, meets}
 
 -- an answer is the number and the priority of the entry that wins, or none; a row is a region with its answer

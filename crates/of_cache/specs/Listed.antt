@@ -2,10 +2,9 @@
 use Rattle.std.specs.Prelude.{◌≡◌, Bool, true, List, [], ◌∷◌, ◌++◌, if◌then◌else◌}
 use Rattle.std.specs.List.{Contains, IsDistinct, list_any}
 use Rattle.of_oxm.specs.declared.masks.FieldMask.{FieldMask}
-use Rattle.of_cache.specs.declared.region.Region.{Region}
+use Rattle.of_cache.specs.{declared.region.Region.Region, Regions.AnsweredRegion}
 use Rattle.of_oxm.specs.contracts.masks.FieldMaskPartialEq.TheImpl as the_mask
 use Rattle.of_cache.specs.contracts.region.RegionPartialEq.TheImpl as the_region
-use Rattle.of_cache.specs.Regions.{AnsweredRegion}
 
 abbrev pub is_same_region : Region → Region → Bool
 is_same_region = the_region.eq-value.it

@@ -1,14 +1,9 @@
 -- Regions: field maps that look alike under a mask. A field map has for each field a value or none (OpenFlow 1.3.5, 5.3).
 use Rattle.std.specs.Prelude.{◌≡◌, ℕ, Bool, nat_eq, List, Option}
-use Rattle.std.specs.List.{list_all}
-use Rattle.std.specs.Option.{option_eq}
-use Rattle.of_layers.specs.declared.field.Field.{Field}
-use Rattle.of_layers.specs.Fields.{all_fields}
-use Rattle.of_headers.specs.declared.key.FieldKey.{FieldKey}
-use Rattle.of_headers.specs.FieldMap.{value, seen}
-use Rattle.of_oxm.specs.declared.match_field.MatchField.{MatchField}
-use Rattle.of_oxm.specs.declared.masks.FieldMask.{FieldMask}
-use Rattle.of_oxm.specs.Masks.{looked_at, value_of, mask_at}
+use Rattle.std.specs.{List.list_all, Option.option_eq}
+use Rattle.of_layers.specs.{declared.field.Field.Field, Fields.all_fields}
+use Rattle.of_headers.specs.{declared.key.FieldKey.FieldKey, FieldMap.value, FieldMap.seen}
+use Rattle.of_oxm.specs.{declared.match_field.MatchField.MatchField, declared.masks.FieldMask.FieldMask, Masks.looked_at, Masks.value_of, Masks.mask_at}
 use Rattle.of_cache.specs.declared.region.Region.{Region}
 
 -- a row of the cache: a region, and the number and the priority of the entry that wins there, or none

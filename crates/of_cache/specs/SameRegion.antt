@@ -1,14 +1,11 @@
 -- Equal regions hash alike, and are the same.
 use Rattle.std.proofs.Common.{◌≡◌, Bool, true, false, ◌&&◌, refl, ap}
-use Rattle.std.specs.Prelude.{IsTrue}
+use Rattle.std.specs.{Prelude.IsTrue, List.flat_map}
 use Rattle.std.specs.Hash as fed
-use Rattle.of_headers.specs.declared.key.FieldKey.{FieldKey}
-use Rattle.of_headers.proofs.SameFields.{equal_keys, key_itself}
+use Rattle.of_headers.{specs.declared.key.FieldKey.FieldKey, specs.Digest.key_words, proofs.SameFields.equal_keys, proofs.SameFields.key_itself}
 use Rattle.of_headers.specs.contracts.key.FieldKeyPartialEq.TheImpl as the_key
 use Rattle.of_cache.specs.declared.region.Region.{Region}
 use Rattle.of_cache.specs.contracts.region.RegionPartialEq.TheImpl as the_region
-use Rattle.std.specs.List.{flat_map}
-use Rattle.of_headers.specs.Digest.{key_words}
 
 record Both (a b : Bool) : Type 0 where
   left : a ≡ true

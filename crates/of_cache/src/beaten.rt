@@ -1,13 +1,9 @@
 //! Rows that an added entry would win over.
-ghost use Rattle.std.specs.Prelude.{◌≡◌, IsTrue};
-ghost use Rattle.std.specs.List.{Contains};
+ghost use Rattle.std.specs.{Prelude.◌≡◌, Prelude.IsTrue, List.Contains};
 ghost use Rattle.of_layers.specs.declared.field.Field.{Field};
 ghost use Rattle.of_headers.specs.FieldMap.{seen};
-ghost use Rattle.of_oxm.specs.declared.masks.FieldMask.{FieldMask as AMask};
-ghost use Rattle.of_oxm.specs.Masks.{mask_at};
-ghost use Rattle.of_cache.specs.Regions.{AnsweredRegion, IsRegion, IsWithin};
-ghost use Rattle.of_cache.specs.Causes.{staying};
-ghost use Rattle.of_cache.specs.Listed.{AreListed};
+ghost use Rattle.of_oxm.specs.{declared.masks.FieldMask.FieldMask as AMask, Masks.mask_at};
+ghost use Rattle.of_cache.specs.{Regions.AnsweredRegion, Regions.IsRegion, Regions.IsWithin, Causes.staying, Listed.AreListed};
 
 use crate::cause::Cause;
 use crate::dropping::{Rows, drop_row, drop_rows};

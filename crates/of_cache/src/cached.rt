@@ -4,14 +4,8 @@ ghost use Rattle.of_layers.specs.declared.field.Field.{Field};
 ghost use Rattle.of_headers.specs.FieldMap.{value};
 ghost use Rattle.of_oxm.specs.Masks.{mask_at, Agree};
 ghost use Rattle.of_wire.specs.Numbered.{is_used, is_distinct, without, moved_to_end};
-ghost use Rattle.of_classifier.specs.declared.Row.{Row as AnEntry};
-ghost use Rattle.of_classifier.specs.Rows.{made_row, row_number, same_of, priority_of};
-ghost use Rattle.of_classifier.specs.Winner.{winner_of, winner_number};
-ghost use Rattle.of_classifier.specs.Scanning.{pair_of};
-ghost use Rattle.of_cache.specs.Held.{HeldRows, held_rows, shown_row};
-ghost use Rattle.of_cache.specs.Kept.{AreSoundRegions, not_answering, not_beaten};
-ghost use Rattle.of_cache.specs.Finding.{AreFound};
-ghost use Rattle.of_cache.specs.Listed.{AreMasks};
+ghost use Rattle.of_classifier.specs.{declared.Row.Row as AnEntry, Rows.made_row, Rows.row_number, Rows.same_of, Rows.priority_of, Winner.winner_of, Winner.winner_number, Scanning.pair_of};
+ghost use Rattle.of_cache.specs.{Held.HeldRows, Held.held_rows, Held.shown_row, Kept.AreSoundRegions, Kept.not_answering, Kept.not_beaten, Finding.AreFound, Listed.AreMasks};
 
 use crate::beaten::drop_beaten;
 use crate::cause::Cause;
@@ -40,9 +34,7 @@ pub struct Cached<L: Lookup> {
 }
 
 impl<L: Lookup> Model for Cached<L> {
-    ghost use Rattle.of_cache.specs.Held.{HeldRows, held_rows};
-    ghost use Rattle.of_cache.specs.Kept.{AreSoundRegions};
-    ghost use Rattle.of_cache.specs.Listed.{AreMasks};
+    ghost use Rattle.of_cache.specs.{Held.HeldRows, Held.held_rows, Kept.AreSoundRegions, Listed.AreMasks};
 
     ghost Value = { HeldRows };
 

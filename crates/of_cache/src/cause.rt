@@ -2,9 +2,7 @@
 ghost use Rattle.std.specs.Prelude.{◌≡◌};
 ghost use Rattle.of_headers.specs.FieldMap.{value};
 ghost use Rattle.of_oxm.specs.Masks.{mask_at};
-ghost use Rattle.of_cache.specs.Regions.{meets_seen};
-ghost use Rattle.of_cache.specs.Kept.{is_answer as answers, is_beaten as beaten};
-ghost use Rattle.of_cache.specs.Causes.{goes as does_go};
+ghost use Rattle.of_cache.specs.{Regions.meets_seen, Kept.is_answer as answers, Kept.is_beaten as beaten, Causes.goes as does_go};
 
 use crate::dropping::Answer;
 use crate::region::Region;

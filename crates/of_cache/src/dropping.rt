@@ -1,10 +1,7 @@
 //! Rows that go, one after another.
 ghost use Rattle.std.specs.Prelude.{◌≡◌, ◌++◌, ◌&&◌, ℕ, false, not, List, [], ◌∷◌, Option, IfNone, filter, if◌then◌else◌};
 ghost use Rattle.std.specs.List.{list_any};
-ghost use Rattle.of_cache.specs.declared.region.Region.{Region as ARegion};
-ghost use Rattle.of_cache.specs.Causes.{goes as does_go, staying};
-ghost use Rattle.of_cache.specs.Listed.{is_same_region};
-ghost use Rattle.of_cache.specs.Regions.{AnsweredRegion};
+ghost use Rattle.of_cache.specs.{declared.region.Region.Region as ARegion, Causes.goes as does_go, Causes.staying, Listed.is_same_region, Regions.AnsweredRegion};
 
 use crate::cause::{Cause, goes};
 use crate::hashing::SecretHasher;

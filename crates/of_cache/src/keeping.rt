@@ -1,13 +1,11 @@
 //! Rows that are found, and new ones.
 ghost use Rattle.std.specs.Prelude.{◌≡◌, ◌⊎◌, ◌-◌, ◌∷◌, take, None, IfSome, IfNone, IsTrue, true, false};
-ghost use Rattle.std.specs.List.{IsDistinct};
-ghost use Rattle.std.specs.Map.{lookup};
+ghost use Rattle.std.specs.{List.IsDistinct, Map.lookup};
 ghost use Rattle.lru.specs.LruCache.{lru_cache, promoted};
 ghost use Rattle.of_headers.specs.FieldMap.{value};
 ghost use Rattle.of_oxm.specs.declared.masks.FieldMask.{FieldMask as AMask};
-ghost use Rattle.of_cache.specs.Finding.{IsHit, NoneHolds};
-ghost use Rattle.of_cache.specs.Regions.{Holds};
 ghost use Rattle.of_cache.specs.Listed.{AreListed, AreMasks, has_row_with_mask, is_same_mask, is_same_region, with_mask};
+ghost use Rattle.of_cache.specs.{Finding.IsHit, Finding.NoneHolds, Regions.Holds};
 
 use crate::dropping::{Answer, Rows};
 use crate::region::Region;

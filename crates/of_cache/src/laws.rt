@@ -1,22 +1,14 @@
 //! Which answers may be kept, and what meets a region.
 ghost use Rattle.std.specs.Prelude.{◌≡◌, ◌++◌, ℕ, List, [], ◌∷◌, Option, IsTrue, true};
 ghost use Rattle.of_layers.specs.declared.field.Field.{Field as AField};
-ghost use Rattle.of_headers.specs.declared.key.FieldKey.{FieldKey as AKey};
-ghost use Rattle.of_headers.specs.FieldMap.{value, seen};
+ghost use Rattle.of_headers.specs.{declared.key.FieldKey.FieldKey as AKey, FieldMap.value, FieldMap.seen};
 ghost use Rattle.of_wire.specs.Numbered.{is_distinct, without, moved_to_end};
-ghost use Rattle.of_oxm.specs.NormalForm.{IsMatch};
-ghost use Rattle.of_oxm.specs.Relations.{IsWithinBits, matches_map};
-ghost use Rattle.of_oxm.specs.Masks.{mask_at, Agree};
-ghost use Rattle.of_oxm.specs.declared.match_field.MatchField.{MatchField as AMatchField};
+ghost use Rattle.of_oxm.specs.{NormalForm.IsMatch, Relations.IsWithinBits, Relations.matches_map, Masks.mask_at, Masks.Agree, declared.match_field.MatchField.MatchField as AMatchField};
 ghost use Rattle.of_oxm.specs.declared.masks.FieldMask.{FieldMask as AMask};
-ghost use Rattle.of_classifier.specs.declared.Row.{Row as AnEntry};
-ghost use Rattle.of_classifier.specs.Rows.{row_number, made_row};
-ghost use Rattle.of_classifier.specs.Winner.{winner_of};
-ghost use Rattle.of_classifier.specs.Scanning.{pair_of};
-ghost use Rattle.of_cache.specs.declared.region.Region.{Region as ARegion};
+ghost use Rattle.of_classifier.specs.{declared.Row.Row as AnEntry, Rows.row_number, Rows.made_row, Winner.winner_of, Scanning.pair_of};
 ghost use Rattle.of_cache.specs.Regions.{AnsweredRegion, Holds, IsRegion, meets, region_of};
 ghost use Rattle.of_cache.specs.Histories.{CacheCall, Decide, AreOfMatches, AnswersCalls, answers_of};
-ghost use Rattle.of_cache.specs.Kept.{IsSoundRegion, AreSoundRegions, not_answering, not_beaten};
+ghost use Rattle.of_cache.specs.{declared.region.Region.Region as ARegion, Kept.IsSoundRegion, Kept.AreSoundRegions, Kept.not_answering, Kept.not_beaten};
 
 /// A region holds exactly the field maps that agree under its mask with one that it holds.
 pub fn regions_are_agreement()

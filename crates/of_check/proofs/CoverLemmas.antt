@@ -1,11 +1,8 @@
 -- Entries that one entry covers.
 use Rattle.std.proofs.Common.{◌≡◌, ℕ, ◌≤◌, true, Option, Some, None, List, [], ◌∷◌, length, refl, subst, arith, inl, inr}
-use Rattle.std.specs.Prelude.{slice_get}
-use Rattle.std.specs.List.{Contains}
-use Rattle.std.proofs.lemmas.Option.{slice_get_cases}
+use Rattle.std.{specs.Prelude.slice_get, specs.List.Contains, proofs.lemmas.Option.slice_get_cases}
 use Rattle.of_layers.specs.declared.field.Field.{Field}
-use Rattle.of_oxm.specs.declared.match_field.MatchField.{MatchField}
-use Rattle.of_oxm.specs.Relations.{covers_match, matches_map}
+use Rattle.of_oxm.specs.{declared.match_field.MatchField.MatchField, Relations.covers_match, Relations.matches_map}
 use Rattle.of_table.specs.Table.{FlowEntry}
 use Rattle.of_regions.proofs.NamingLemmas.{first_or_behind}
 use Rattle.of_check.specs.Verdicts.{NeverWins, GoesBefore, Covers, fields_of}

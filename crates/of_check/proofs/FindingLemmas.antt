@@ -1,11 +1,8 @@
 -- One finding more.
 use Rattle.std.proofs.Common.{◌≡◌, ℕ, suc, List, [], ◌∷◌, ◌++◌, length, refl, sym, ap, subst, ◌∙◌, arith, inl, inr}
-use Rattle.std.proofs.lemmas.List.{append_assoc, append-nil, map-append}
-use Rattle.std.proofs.lemmas.List.Elements.{Contains-push_cases}
+use Rattle.std.proofs.{lemmas.List.append_assoc, lemmas.List.append-nil, lemmas.List.map-append, lemmas.List.Elements.Contains-push_cases}
 use Rattle.of_table.specs.Tables.{Tables, table_at}
-use Rattle.of_check.specs.declared.finding.Finding.{Finding}
-use Rattle.of_check.specs.Verdicts.{VerdictHolds}
-use Rattle.of_check.specs.Findings.{AreFindings, found_entry, first_entries, entries_below}
+use Rattle.of_check.specs.{declared.finding.Finding.Finding, Verdicts.VerdictHolds, Findings.AreFindings, Findings.found_entry, Findings.first_entries, Findings.entries_below}
 
 pub no_findings : (ts : Tables) (steps : ℕ) → AreFindings (entries_below 0 ts) ts steps []
 unfolding entries_below

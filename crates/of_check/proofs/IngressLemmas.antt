@@ -1,42 +1,23 @@
 -- The port by which a packet came stays, and an OUTPUT to it by its number does nothing.
 use Rattle.std.proofs.Common.{◌≡◌, ℕ, suc, zero, ◌==◌, eqb, Bool, true, false, List, [], ◌∷◌, ◌++◌, Option, Some, None, refl, sym, ◌∙◌, ap, subst, arith, if◌then◌else◌}
 use Rattle.std.specs.Prelude.{map, ◌&&◌, ◌-◌, ◌^◌, ◌%◌, ◌<◌, bit_and, is_none, length, slice_get, slice_index_or}
-use Rattle.std.specs.Option.{option_map}
-use Rattle.std.specs.List.{AllByRecursion, Contains}
-use Rattle.std.proofs.lemmas.Bool.{eq-eqb, eqb-true}
-use Rattle.std.proofs.Math.Nat.{mod-eq_of_lt}
-use Rattle.std.proofs.lemmas.Nat.{and_mask}
-use Rattle.std.proofs.lemmas.Bool.Decides.{nat_tests}
-use Rattle.std.proofs.lemmas.List.{append-nil}
+use Rattle.std.{specs.Option.option_map, specs.List.AllByRecursion, specs.List.Contains, proofs.lemmas.Bool.eq-eqb, proofs.lemmas.Bool.eqb-true, proofs.Math.Nat.mod-eq_of_lt}
+use Rattle.std.proofs.{lemmas.Nat.and_mask, lemmas.Bool.Decides.nat_tests, lemmas.List.append-nil}
 use Rattle.of_wire.specs.declared.limits.TheConstants.{OFPP_ALL, OFPP_CONTROLLER, OFPP_FLOOD, OFPP_IN_PORT, OFPP_TABLE}
-use Rattle.of_layers.specs.Fields.{row_of}
-use Rattle.of_layers.specs.Reading.{layers_of}
-use Rattle.of_rewrite.specs.declared.frame.Ttl.{Ttl}
-use Rattle.of_rewrite.specs.declared.frame.Ttl.TheVariants.{Done, Expired, Absent}
+use Rattle.of_layers.specs.{Fields.row_of, Reading.layers_of, declared.field.Field.Field, declared.field.Field.TheVariants.InPort}
+use Rattle.of_rewrite.specs.{declared.frame.Ttl.Ttl, declared.frame.Ttl.TheVariants.Done, declared.frame.Ttl.TheVariants.Expired, declared.frame.Ttl.TheVariants.Absent}
 use Rattle.of_rewrite.specs.TimeToLive.{ttl_of, dec_ttl_result}
-use Rattle.of_actions.specs.declared.action.Action.{Action}
 use Rattle.of_actions.specs.declared.action.Action.TheVariants.{Output, PushVlan, PopVlan, Group, SetNwTtl, DecNwTtl, SetField}
-use Rattle.of_actions.specs.declared.instruction.Instruction.{Instruction}
 use Rattle.of_actions.specs.declared.instruction.Instruction.TheVariants.{Apply, Clear, Write, Metadata, Goto}
-use Rattle.of_actions.specs.PortNumbers.{is_number}
-use Rattle.of_layers.specs.declared.field.Field.{Field}
-use Rattle.of_layers.specs.declared.field.Field.TheVariants.{InPort}
-use Rattle.of_oxm.specs.declared.match_field.MatchField.{MatchField}
-use Rattle.of_oxm.specs.Relations.{agrees, bits_looked_at, matches_map}
-use Rattle.of_check.specs.Actions.{is_in_port, required_port}
-use Rattle.of_table.specs.declared.flow.Flow.{Flow}
-use Rattle.of_table.specs.Table.{FlowEntry, flow_at}
-use Rattle.of_table.specs.Tables.{table_at}
+use Rattle.of_actions.specs.{declared.action.Action.Action, declared.instruction.Instruction.Instruction, PortNumbers.is_number}
+use Rattle.of_oxm.specs.{declared.match_field.MatchField.MatchField, Relations.agrees, Relations.bits_looked_at, Relations.matches_map}
+use Rattle.of_check.{specs.Actions.is_in_port, specs.Actions.required_port, proofs.WinnerLemmas.winner_agrees}
+use Rattle.of_table.specs.{declared.flow.Flow.Flow, Table.FlowEntry, Table.flow_at, Tables.table_at}
 use Rattle.of_datapath.specs.Datapath.{Forwarding, flow_in, winner_in}
-use Rattle.of_check.proofs.WinnerLemmas.{winner_agrees}
-use Rattle.of_machine.specs.declared.data.Packet.{Packet}
-use Rattle.of_machine.specs.declared.data.Item.{Item}
-use Rattle.of_machine.specs.declared.data.Count.{Count}
-use Rattle.of_machine.specs.declared.data.Step.{Step}
-use Rattle.of_machine.specs.declared.data.Step.TheVariants.{Act as DidAct}
-use Rattle.of_machine.specs.TheWorld.{TheWorld}
 use Rattle.of_machine.specs.Rows.{Work, Lookup, Do, RunSet, Act, Task, task, Row, row, goes_on, key_of, lookup_row, entry_row, do_row, act_row, group_action_row, dec_ttl_row, copies, Emitted, emits, output_to_table_row}
 use Rattle.of_machine.specs.Runs.{Machine, step, first_step, taken, after, starting}
+use Rattle.of_machine.specs.{declared.data.Packet.Packet, declared.data.Item.Item, declared.data.Count.Count, declared.data.Step.Step, declared.data.Step.TheVariants.Act as DidAct}
+use Rattle.of_machine.specs.TheWorld.{TheWorld}
 
 -- ---- the port stays
 

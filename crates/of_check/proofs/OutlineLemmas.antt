@@ -1,20 +1,14 @@
 -- Where two outlines do not agree, the matches do not overlap.
 use Rattle.std.proofs.Common.{◌≡◌, ℕ, zero, suc, Bool, true, false, cond, eqb, List, [], ◌∷◌, Option, Some, None, length, refl, sym, ap, subst, ◌∙◌}
 use Rattle.std.specs.Prelude.{bit_and, not, ◌&&◌, ◌||◌, slice_get}
-use Rattle.std.specs.Int.Bits.{and_comm}
-use Rattle.std.specs.List.{list_all}
-use Rattle.std.specs.Option.{option_map}
-use Rattle.std.proofs.lemmas.Bool.{eqb-true, eq-eqb}
-use Rattle.of_layers.specs.declared.field.Field.{Field}
+use Rattle.std.{specs.Int.Bits.and_comm, specs.List.list_all, specs.Option.option_map, proofs.lemmas.Bool.eqb-true, proofs.lemmas.Bool.eq-eqb}
+use Rattle.of_layers.specs.{declared.field.Field.Field, Fields.number_of}
 use Rattle.of_layers.specs.declared.field.Field.TheVariants as field
-use Rattle.of_layers.specs.Fields.{number_of}
-use Rattle.of_oxm.specs.declared.match_field.MatchField.{MatchField}
-use Rattle.of_oxm.specs.Masks.{first_at}
-use Rattle.of_oxm.specs.Relations.{bits_looked_at, can_both, overlaps_match}
+use Rattle.of_oxm.specs.{declared.match_field.MatchField.MatchField, Masks.first_at, Relations.bits_looked_at, Relations.can_both, Relations.overlaps_match}
 use Rattle.of_oxm.proofs.Related.{and_true}
 use Rattle.of_table.specs.Table.{FlowEntry}
-use Rattle.of_check.specs.declared.outline.Outline.{Outline}
 use Rattle.of_check.specs.Outlines.{outline_of, outlines_agree, outlines_of, part_of, parts_agree}
+use Rattle.of_check.specs.declared.outline.Outline.{Outline}
 
 -- ---- the first field of a number
 

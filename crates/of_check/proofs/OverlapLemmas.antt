@@ -1,17 +1,11 @@
 -- What covers a match overlaps it, so an entry that covers one is among its rivals.
 use Rattle.std.proofs.Common.{◌≡◌, ℕ, zero, suc, ◌<◌, true, false, List, [], ◌∷◌, Option, None, Some, length, refl, sym, ap, subst, ◌∙◌, arith, inl, inr}
-use Rattle.std.specs.Prelude.{IfSome, slice_get, slice_index_or}
-use Rattle.std.specs.List.{All}
-use Rattle.std.specs.Option.{option_map}
+use Rattle.std.specs.{Prelude.IfSome, Prelude.slice_get, Prelude.slice_index_or, List.All, Option.option_map}
 use Rattle.of_layers.specs.declared.field.Field.{Field}
 use Rattle.of_headers.specs.FieldMap.{seen}
-use Rattle.of_oxm.specs.declared.match_field.MatchField.{MatchField}
-use Rattle.of_oxm.specs.NormalForm.{IsKept, IsMatch}
-use Rattle.of_oxm.specs.Relations.{bits_looked_at, covers_match, matches_map, overlaps_match}
-use Rattle.of_oxm.specs.Masks.{first_at, value_of}
-use Rattle.of_oxm.proofs.Joined.{covered, found_if}
-use Rattle.of_oxm.proofs.Related.{covered_matched, matched_overlap}
-use Rattle.of_oxm.proofs.Seen.{seen_matched}
+use Rattle.of_oxm.specs.{declared.match_field.MatchField.MatchField, NormalForm.IsKept, NormalForm.IsMatch}
+use Rattle.of_oxm.specs.{Relations.bits_looked_at, Relations.covers_match, Relations.matches_map, Relations.overlaps_match, Masks.first_at, Masks.value_of}
+use Rattle.of_oxm.proofs.{Joined.covered, Joined.found_if, Related.covered_matched, Related.matched_overlap, Seen.seen_matched}
 use Rattle.of_table.specs.Table.{FlowEntry}
 use Rattle.of_regions.specs.declared.rival.Rival.{Rival}
 use Rattle.of_check.specs.Verdicts.{AreRivals, Covers, GoesBefore, is_covering}

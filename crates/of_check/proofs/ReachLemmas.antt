@@ -1,18 +1,11 @@
 -- The tables that are counted as reached are those that ways lead to.
 use Rattle.std.proofs.Common.{◌≡◌, ℕ, ◌+◌, ◌-◌, ◌<◌, ◌≤◌, ◌⊎◌, ◌↔◌, zero, suc, Bool, true, false, cond, eqb, ltb, List, [], ◌∷◌, ◌++◌, length, refl, sym, ap, subst, ◌∙◌, arith, inl, inr}
-use Rattle.std.specs.Prelude.{◌&&◌, ◌||◌, slice_index_or}
-use Rattle.std.specs.List.{AllByRecursion, list_all, list_any}
 use Rattle.std.proofs.lemmas.Bool.{and_from, and_parts, cases_lt, eq-eqb, eqb-true, ltb-true, or_cases}
-use Rattle.std.proofs.lemmas.List.{get_or_past}
+use Rattle.std.{specs.Prelude.◌&&◌, specs.Prelude.◌||◌, specs.Prelude.slice_index_or, specs.List.AllByRecursion, specs.List.list_all, specs.List.list_any, proofs.lemmas.List.get_or_past}
 use Rattle.std.proofs.lemmas.List.Folds.{list_any-append}
-use Rattle.of_actions.specs.declared.instruction.Instruction.{Instruction}
 use Rattle.of_actions.specs.declared.instruction.Instruction.TheVariants.{Apply, Clear, Write, Metadata, Goto}
-use Rattle.of_actions.specs.InstructionLists.{is_for}
-use Rattle.of_text.specs.Flows.{Flow, goes_to}
-use Rattle.of_text.specs.Kept.{IsEntry}
-use Rattle.of_text.specs.Configs.{Configuration, IsConfig}
-use Rattle.of_text.proofs.EntryLemmas.{config_entries}
-use Rattle.of_text.proofs.FillLemmas.{sixteen}
+use Rattle.of_actions.specs.{declared.instruction.Instruction.Instruction, InstructionLists.is_for}
+use Rattle.of_text.{specs.Flows.Flow, specs.Flows.goes_to, specs.Kept.IsEntry, specs.Configs.Configuration, specs.Configs.IsConfig, proofs.EntryLemmas.config_entries, proofs.FillLemmas.sixteen}
 use Rattle.of_check.specs.Tables.{IsReached, flows_at, is_led_to, is_reached, is_way, leads_to_table, reached_below}
 
 or_left : (a b : Bool) → a ≡ true → (a || b) ≡ true

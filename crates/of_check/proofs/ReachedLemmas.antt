@@ -1,31 +1,22 @@
 -- A run looks packets up at tables that GOTO_TABLE leads to.
 use Rattle.std.proofs.Common.{◌≡◌, ℕ, suc, zero, ◌==◌, eqb, Bool, true, false, List, [], ◌∷◌, ◌++◌, Option, Some, None, refl, sym, subst, if◌then◌else◌}
 use Rattle.std.specs.Prelude.{map, ◌&&◌, ◌||◌, slice_index_or, IfSome, ⊤}
-use Rattle.std.specs.List.{AllByRecursion, list_any}
-use Rattle.std.proofs.lemmas.Bool.{eq-eqb, eqb-true}
+use Rattle.std.{specs.List.AllByRecursion, specs.List.list_any, proofs.lemmas.Bool.eq-eqb, proofs.lemmas.Bool.eqb-true}
 use Rattle.of_wire.specs.declared.limits.TheConstants.{OFPP_TABLE}
 use Rattle.of_layers.specs.Reading.{layers_of}
-use Rattle.of_rewrite.specs.declared.frame.Ttl.{Ttl}
-use Rattle.of_rewrite.specs.declared.frame.Ttl.TheVariants.{Done, Expired, Absent}
+use Rattle.of_rewrite.specs.{declared.frame.Ttl.Ttl, declared.frame.Ttl.TheVariants.Done, declared.frame.Ttl.TheVariants.Expired, declared.frame.Ttl.TheVariants.Absent}
 use Rattle.of_rewrite.specs.TimeToLive.{ttl_of, dec_ttl_result}
-use Rattle.of_actions.specs.declared.action.Action.{Action}
 use Rattle.of_actions.specs.declared.action.Action.TheVariants.{Output, PushVlan, PopVlan, Group, SetNwTtl, DecNwTtl, SetField}
-use Rattle.of_actions.specs.declared.instruction.Instruction.{Instruction}
 use Rattle.of_actions.specs.declared.instruction.Instruction.TheVariants.{Apply, Clear, Write, Metadata, Goto}
+use Rattle.of_actions.specs.{declared.action.Action.Action, declared.instruction.Instruction.Instruction}
 use Rattle.of_action_set.specs.Sets.{in_order}
-use Rattle.of_table.specs.declared.flow.Flow.{Flow}
-use Rattle.of_table.specs.Table.{FlowEntry, Table, empty_table, flow_at}
-use Rattle.of_table.specs.Tables.{table_at}
+use Rattle.of_table.specs.{declared.flow.Flow.Flow, Table.FlowEntry, Table.Table, Table.empty_table, Table.flow_at, Tables.table_at}
 use Rattle.of_text.specs.Flows.{Flow as TextFlow, goes_to}
-use Rattle.of_check.specs.Tables.{IsReached, is_way, leads_to_table}
-use Rattle.of_machine.specs.declared.data.Packet.{Packet}
-use Rattle.of_machine.specs.declared.data.Step.{Step}
-use Rattle.of_machine.specs.TheWorld.{TheWorld}
+use Rattle.of_check.specs.{Tables.IsReached, Tables.is_way, Tables.leads_to_table, Reached.AtTables, Reached.looked_up}
 use Rattle.of_machine.specs.Rows.{Work, Lookup, Do, RunSet, Act, Task, task, Row, row, acts, works, key_of, lookup_row, entry_row, do_row, act_row, group_action_row, dec_ttl_row, copies, Emitted, emits, output_to_table_row}
 use Rattle.of_machine.specs.Runs.{Machine, step, first_step, or_end, until_none, starting, run_of}
-use Rattle.of_datapath.specs.Datapath.{Forwarding, world_of}
-use Rattle.of_datapath.specs.Loading.{configuration_of, entry_text, table_text, texts_from}
-use Rattle.of_check.specs.Reached.{AtTables, looked_up}
+use Rattle.of_machine.specs.{declared.data.Packet.Packet, declared.data.Step.Step, TheWorld.TheWorld}
+use Rattle.of_datapath.specs.{Datapath.Forwarding, Datapath.world_of, Loading.configuration_of, Loading.entry_text, Loading.table_text, Loading.texts_from}
 
 -- ---- work that goes on at such tables alone
 

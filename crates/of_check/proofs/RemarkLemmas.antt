@@ -1,13 +1,9 @@
 -- Remarks, one after the other.
 use Rattle.std.proofs.Common.{◌≡◌, ℕ, ◌+◌, ◌<◌, ◌≤◌, suc, Bool, true, false, List, [], ◌∷◌, ◌++◌, length, get_or, drop, take, refl, sym, ap, ◌∙◌, add-one, drop-cons, arith}
 use Rattle.std.specs.Prelude.{map, ◌||◌, Result, Ok, Err, OnOk, is_ok, if◌then◌else◌}
-use Rattle.std.specs.List.{flat_map, list_any}
-use Rattle.std.proofs.lemmas.List.{append_assoc, append-nil, drop_all}
-use Rattle.of_text.specs.Flows.{Flow}
-use Rattle.of_text.specs.declared.flow.FlowText.{FlowText}
-use Rattle.of_text.specs.Views.{view, view_flows}
-use Rattle.of_check.specs.declared.remark.Remark.{Remark}
-use Rattle.of_check.specs.Remarks.{flow_remarks, flows_remarks}
+use Rattle.std.{specs.List.flat_map, specs.List.list_any, proofs.lemmas.List.append_assoc, proofs.lemmas.List.append-nil, proofs.lemmas.List.drop_all}
+use Rattle.of_text.specs.{Flows.Flow, declared.flow.FlowText.FlowText, Views.view, Views.view_flows}
+use Rattle.of_check.specs.{declared.remark.Remark.Remark, Remarks.flow_remarks, Remarks.flows_remarks}
 
 -- the next item of a list that is seen through a view
 pub next_of : {X Y : Type 0} (f : Y → List Remark) (v : X → Y) (xs : List X) (i : ℕ) (d : X) (out new all : List Remark) → i < length xs → d ≡ get_or xs i d

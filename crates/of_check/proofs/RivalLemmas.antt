@@ -1,31 +1,15 @@
 -- The entries that go before one, and what a search among them says.
 use Rattle.std.proofs.Common.{◌≡◌, ℕ, ◌+◌, ◌<◌, ◌≤◌, ◌⊎◌, ◌^◌, Bool, true, false, Option, Some, None, List, [], ◌∷◌, ◌++◌, length, refl, sym, ap, subst, ◌∙◌, arith, inl, inr, below_more}
-use Rattle.std.specs.Prelude.{slice_get}
-use Rattle.std.specs.List.{AllByRecursion, Contains}
-use Rattle.std.specs.Option.{option_map}
-use Rattle.std.proofs.lemmas.List.Elements.{Contains-append_left, Contains-push, Contains-push_cases}
-use Rattle.std.proofs.lemmas.Bool.{cases_lt}
-use Rattle.std.proofs.lemmas.Option.{slice_get_past}
-use Rattle.of_layers.specs.declared.field.Field.{Field}
-use Rattle.of_oxm.specs.declared.match_field.MatchField.{MatchField}
-use Rattle.of_oxm.specs.NormalForm.{IsKept, IsMatch}
-use Rattle.of_oxm.specs.Relations.{matches_map, overlaps_match}
-use Rattle.of_layers.specs.Reading.{layers_of}
-use Rattle.of_frames.specs.Rules.{shape_of, tagging_of}
-use Rattle.of_frames.proofs.Shapes.{shaped, tags_seen}
+use Rattle.std.specs.{Prelude.slice_get, List.AllByRecursion, List.Contains, Option.option_map}
+use Rattle.std.proofs.{lemmas.List.Elements.Contains-append_left, lemmas.List.Elements.Contains-push, lemmas.List.Elements.Contains-push_cases, lemmas.Bool.cases_lt, lemmas.Option.slice_get_past}
+use Rattle.of_layers.specs.{declared.field.Field.Field, Reading.layers_of}
+use Rattle.of_oxm.specs.{declared.match_field.MatchField.MatchField, NormalForm.IsKept, NormalForm.IsMatch, Relations.matches_map, Relations.overlaps_match}
+use Rattle.of_frames.{specs.Rules.shape_of, specs.Rules.tagging_of, proofs.Shapes.shaped, proofs.Shapes.tags_seen}
 use Rattle.of_table.specs.Table.{FlowEntry}
-use Rattle.of_regions.specs.declared.rival.Rival.{Rival}
-use Rattle.of_regions.specs.declared.witness.Packet.{Packet as PacketFound}
-use Rattle.of_regions.specs.declared.region.Region.{Region}
-use Rattle.of_regions.specs.Conditions.{AreConditions}
-use Rattle.of_regions.proofs.NarrowingLemmas.{kept_condition}
-use Rattle.of_regions.specs.Searching.{AreTaking, IsFreePacket, IsStart}
-use Rattle.of_regions.specs.Witness.{IsIngressPort, fields_in}
-use Rattle.of_check.specs.declared.outline.Outline.{Outline}
-use Rattle.of_check.specs.Outlines.{outline_of, outlines_agree}
-use Rattle.of_check.proofs.OutlineLemmas.{none_overlap}
+use Rattle.of_regions.specs.{declared.rival.Rival.Rival, declared.witness.Packet.Packet as PacketFound, declared.region.Region.Region, Conditions.AreConditions}
+use Rattle.of_regions.{specs.Searching.AreTaking, specs.Searching.IsFreePacket, specs.Searching.IsStart, specs.Witness.IsIngressPort, specs.Witness.fields_in, proofs.NarrowingLemmas.kept_condition}
 use Rattle.of_check.specs.Verdicts.{AreRivals, GoesBefore, NeverWins, TakesRegion, WinsWith, fields_of}
-use Rattle.of_check.proofs.WinnerLemmas.{wins_alone}
+use Rattle.of_check.{specs.declared.outline.Outline.Outline, specs.Outlines.outline_of, specs.Outlines.outlines_agree, proofs.OutlineLemmas.none_overlap, proofs.WinnerLemmas.wins_alone}
 
 -- a higher priority than the second, or the same and an earlier place
 abbrev Precedes : FlowEntry → FlowEntry → ℕ → ℕ → Type 0

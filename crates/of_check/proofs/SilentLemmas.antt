@@ -1,20 +1,13 @@
 -- A packet whose work sends nothing ends, and nothing is emitted or counted.
 use Rattle.std.proofs.Common.{◌≡◌, ℕ, suc, zero, ◌+◌, Bool, true, false, List, [], ◌∷◌, ◌++◌, refl, sym, ◌∙◌, ap, arith}
-use Rattle.std.specs.Prelude.{◌||◌}
-use Rattle.std.specs.List.{list_any}
-use Rattle.std.proofs.lemmas.List.{append-nil}
-use Rattle.of_actions.specs.declared.action.Action.{Action}
+use Rattle.std.{specs.Prelude.◌||◌, specs.List.list_any, proofs.lemmas.List.append-nil}
 use Rattle.of_actions.specs.declared.action.Action.TheVariants.{Output, PushVlan, PopVlan, Group, SetNwTtl, DecNwTtl, SetField}
+use Rattle.of_actions.specs.declared.action.Action.{Action}
 use Rattle.of_action_set.specs.Sets.{in_order}
-use Rattle.of_check.specs.Actions.{may_send_packet}
-use Rattle.of_machine.specs.declared.data.Packet.{Packet}
-use Rattle.of_machine.specs.declared.data.Item.{Item}
-use Rattle.of_machine.specs.declared.data.Count.{Count}
-use Rattle.of_machine.specs.declared.data.Step.TheVariants.{Act as DidAct}
-use Rattle.of_machine.specs.TheWorld.{TheWorld}
+use Rattle.of_check.specs.{Actions.may_send_packet, Unseen.ComesUnseen as Quietly}
 use Rattle.of_machine.specs.Rows.{Work, RunSet, Act, Task, task, Row, row, acts, act_row, goes_on, rewritten, set_out}
 use Rattle.of_machine.specs.Runs.{Machine, step, first_step, taken, after}
-use Rattle.of_check.specs.Unseen.{ComesUnseen as Quietly}
+use Rattle.of_machine.specs.{declared.data.Packet.Packet, declared.data.Item.Item, declared.data.Count.Count, declared.data.Step.TheVariants.Act as DidAct, TheWorld.TheWorld}
 
 -- ---- steps, one after the other
 

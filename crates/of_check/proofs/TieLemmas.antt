@@ -1,7 +1,6 @@
 -- Whether one of some entries has a priority.
 use Rattle.std.proofs.Common.{◌≡◌, ℕ, ◌<◌, zero, suc, Bool, true, false, List, [], ◌∷◌, length, get_or, Some, refl, ap, ◌∙◌, arith}
-use Rattle.std.specs.Prelude.{slice_get, ◌||◌}
-use Rattle.std.specs.List.{list_any}
+use Rattle.std.specs.{Prelude.slice_get, Prelude.◌||◌, List.list_any}
 use Rattle.of_table.specs.Table.{FlowEntry}
 use Rattle.of_check.specs.Verdicts.{are_level, is_tie}
 

@@ -1,20 +1,14 @@
 -- A field that a frame has leads to others: each header that names it names them too.
 use Rattle.std.proofs.Common.{◌≡◌, ℕ, ◌<◌, ◌≤◌, zero, suc, Bool, true, false, cond, ◌&&◌, eqb, List, [], ◌∷◌, ◌++◌, length, get_or, Option, Some, None, refl, sym, ap, subst, arith}
-use Rattle.std.specs.Prelude.{◌||◌, not, IsSome}
-use Rattle.std.specs.List.{Contains, list_all}
-use Rattle.std.specs.Option.{option_or}
+use Rattle.std.specs.{Prelude.◌||◌, Prelude.not, Prelude.IsSome, List.Contains, List.list_all, Option.option_or}
+use Rattle.of_layers.specs.declared.transport.Transport.TheVariants.{Nothing, Tcp, Udp, Icmpv4, Icmpv6}
+use Rattle.of_layers.specs.Layers.{Item, plain, named, Cell, Extension, Options, Fragment, Body, Plain, Arp, Ipv4, Ipv6, Carried, Layers, cells_in, byte_cells, inner_cells, tag_cells, extension_cells, carried_cells, body_cells, cells, next_before, addresses, outer_tag, inner_tag, ether_type, arp, ipv4, ipv6, options, fragment, items_of}
+use Rattle.of_layers.specs.WellFormed.{AreBytes, FitsItems, AreTags, AreExtensions, IsBody, IsLayers}
 use Rattle.of_layers.specs.declared.field.Field.{Field}
 use Rattle.of_layers.specs.declared.field.Field.TheVariants.{InPort, Metadata, VlanVid, IpProto}
-use Rattle.of_layers.specs.declared.transport.Transport.{Transport}
-use Rattle.of_layers.specs.declared.transport.Transport.TheVariants.{Nothing, Tcp, Udp, Icmpv4, Icmpv6}
-use Rattle.of_layers.specs.Fields.{row_of, number_of}
-use Rattle.of_layers.specs.Layers.{Item, plain, named, Cell, Extension, Options, Fragment, Body, Plain, Arp, Ipv4, Ipv6, Carried, Layers, cells_in, byte_cells, inner_cells, tag_cells, extension_cells, carried_cells, body_cells, cells, next_before, addresses, outer_tag, inner_tag, ether_type, arp, ipv4, ipv6, options, fragment, items_of}
-use Rattle.of_layers.specs.Looking.{name_is, look_up, look}
-use Rattle.of_layers.specs.Reading.{layers_of}
-use Rattle.of_layers.specs.WellFormed.{AreBytes, FitsItems, AreTags, AreExtensions, IsBody, IsLayers}
+use Rattle.of_layers.specs.{declared.transport.Transport.Transport, Fields.row_of, Fields.number_of, Looking.name_is, Looking.look_up, Looking.look, Reading.layers_of}
 use Rattle.of_layers.proofs.FrameLemmas.{are_layers}
-use Rattle.of_headers.specs.FieldMap.{field_map}
-use Rattle.of_headers.proofs.LookLemmas.{look-append, look_bytes}
+use Rattle.of_headers.{specs.FieldMap.field_map, proofs.LookLemmas.look-append, proofs.LookLemmas.look_bytes}
 use Rattle.of_check.specs.Rules.{implied_fields}
 
 -- ---- among cells

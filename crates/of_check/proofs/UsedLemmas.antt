@@ -1,36 +1,25 @@
 -- After actions that are unseen the packet's action set holds none that may send: the sets of a run are tied to what the tables before write.
 use Rattle.std.proofs.Common.{◌≡◌, ℕ, suc, zero, ◌+◌, ◌<◌, ◌≤◌, ◌==◌, Bool, true, false, List, [], ◌∷◌, ◌++◌, Option, Some, None, refl, sym, ap, subst, arith, inl, inr, if◌then◌else◌}
 use Rattle.std.specs.Prelude.{take, not, filter, nat_lt, ◌&&◌, ◌||◌, ◌⊎◌, slice_index_or, ⊤}
-use Rattle.std.specs.List.{AllByRecursion, list_all, list_any}
-use Rattle.std.proofs.lemmas.Bool.{ltb-true}
+use Rattle.std.{specs.List.AllByRecursion, specs.List.list_all, specs.List.list_any, proofs.lemmas.Bool.ltb-true}
 use Rattle.of_wire.specs.declared.limits.TheConstants.{OFPP_TABLE}
 use Rattle.of_layers.specs.Reading.{layers_of}
-use Rattle.of_rewrite.specs.declared.frame.Ttl.{Ttl}
-use Rattle.of_rewrite.specs.declared.frame.Ttl.TheVariants.{Done, Expired, Absent}
+use Rattle.of_rewrite.specs.{declared.frame.Ttl.Ttl, declared.frame.Ttl.TheVariants.Done, declared.frame.Ttl.TheVariants.Expired, declared.frame.Ttl.TheVariants.Absent}
 use Rattle.of_rewrite.specs.TimeToLive.{ttl_of, dec_ttl_result}
-use Rattle.of_actions.specs.declared.action.Action.{Action}
 use Rattle.of_actions.specs.declared.action.Action.TheVariants.{Output, PushVlan, PopVlan, Group, SetNwTtl, DecNwTtl, SetField}
-use Rattle.of_actions.specs.declared.instruction.Instruction.{Instruction}
 use Rattle.of_actions.specs.declared.instruction.Instruction.TheVariants.{Apply, Clear, Write, Metadata, Goto}
-use Rattle.of_actions.specs.InstructionLists.{is_for, is_served_body, run_place}
+use Rattle.of_actions.specs.{declared.action.Action.Action, declared.instruction.Instruction.Instruction, InstructionLists.is_for, InstructionLists.is_served_body, InstructionLists.run_place}
 use Rattle.of_actions.specs.Rising.{is_ascending}
 use Rattle.of_action_set.specs.Sets.{in_order, is_group, is_output, rank, with_action, with_actions}
-use Rattle.of_table.specs.declared.flow.Flow.{Flow}
-use Rattle.of_table.specs.Tables.{table_at}
+use Rattle.of_table.specs.{declared.flow.Flow.Flow, Tables.table_at}
 use Rattle.of_text.specs.Flows.{Flow as TextFlow}
-use Rattle.of_check.specs.Tables.{flows_at}
 use Rattle.of_check.specs.Actions.{is_clear, is_goto, is_used_later, may_send_packet, some_writes_sending, writes_sending}
-use Rattle.of_machine.specs.declared.data.Packet.{Packet}
-use Rattle.of_machine.specs.declared.data.Step.{Step}
-use Rattle.of_machine.specs.TheWorld.{TheWorld}
-use Rattle.of_machine.specs.Sound.{IsSound}
+use Rattle.of_check.proofs.SilentLemmas.{acts_done, one_step, or_parts, set_ended, onward}
+use Rattle.of_check.{specs.Tables.flows_at, specs.Unseen.ComesUnseen as Quietly, proofs.ReachedLemmas.any_entry, proofs.ReachedLemmas.or_right, proofs.ReachedLemmas.text_at}
 use Rattle.of_machine.specs.Rows.{Work, Lookup, Do, RunSet, Act, Task, task, row, acts, works, fresh_packet, key_of, lookup_row, entry_row, do_row, act_row, group_action_row, dec_ttl_row, copies, Emitted, emits, entering, set_out, output_to_table_row}
 use Rattle.of_machine.specs.Runs.{Machine, step, first_step, after, starting}
-use Rattle.of_datapath.specs.Datapath.{Forwarding, world_of}
-use Rattle.of_datapath.specs.Loading.{configuration_of, table_text}
-use Rattle.of_check.specs.Unseen.{ComesUnseen as Quietly}
-use Rattle.of_check.proofs.ReachedLemmas.{any_entry, or_right, text_at}
-use Rattle.of_check.proofs.SilentLemmas.{acts_done, one_step, or_parts, set_ended, onward}
+use Rattle.of_machine.specs.{declared.data.Packet.Packet, declared.data.Step.Step, TheWorld.TheWorld, Sound.IsSound}
+use Rattle.of_datapath.specs.{Datapath.Forwarding, Datapath.world_of, Loading.configuration_of, Loading.table_text}
 
 and_parts : (a b : Bool) → (a && b) ≡ true → (a ≡ true) × (b ≡ true)
 and_parts true b h = (refl, h)

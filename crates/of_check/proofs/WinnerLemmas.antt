@@ -1,13 +1,9 @@
 -- An entry that wins has no matching entry before it.
 use Rattle.std.proofs.Common.{◌≡◌, ℕ, ◌+◌, ◌≤◌, ◌<◌, ◌⊎◌, zero, suc, true, false, List, [], ◌∷◌, Option, Some, None, refl, sym, ap, subst, ◌∙◌, arith, inl, inr}
-use Rattle.std.proofs.lemmas.Bool.{cases_lt}
-use Rattle.std.specs.Prelude.{slice_get}
+use Rattle.std.{specs.Prelude.slice_get, proofs.lemmas.Bool.cases_lt}
 use Rattle.of_layers.specs.declared.field.Field.{Field}
 use Rattle.of_oxm.specs.Relations.{matches_map}
-use Rattle.of_classifier.specs.declared.Row.{Row}
-use Rattle.of_classifier.specs.Rows.{made_row}
-use Rattle.of_classifier.specs.Winner.{winner_of, winner_number, Wins}
-use Rattle.of_classifier.proofs.WinnerLaw.{wins_both}
+use Rattle.of_classifier.{specs.declared.Row.Row, specs.Rows.made_row, specs.Winner.winner_of, specs.Winner.winner_number, specs.Winner.Wins, proofs.WinnerLaw.wins_both}
 use Rattle.of_table.specs.Table.{FlowEntry, rows_from, winner_place}
 use Rattle.of_check.specs.Verdicts.{Packet, IsPacket, Matches, NeverWins, GoesBefore, fields_of}
 

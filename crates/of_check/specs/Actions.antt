@@ -1,16 +1,13 @@
 -- ACTIONS WITHOUT EFFECT (OpenFlow 1.3.5, 4.5, 5.9, 5.10 and 5.12).
 use Rattle.std.specs.Prelude.{ℕ, ◌==◌, Bool, true, false, not, ◌&&◌, ◌||◌, List, [], ◌∷◌, take, Option, Some, None, is_none, if◌then◌else◌}
 use Rattle.std.specs.List.{list_any, suffix_len}
-use Rattle.of_layers.specs.declared.field.Field.{Field}
-use Rattle.of_layers.specs.declared.field.Field.TheVariants.{InPort}
+use Rattle.of_layers.specs.{declared.field.Field.Field, declared.field.Field.TheVariants.InPort}
 use Rattle.of_oxm.specs.declared.match_field.MatchField.{MatchField}
-use Rattle.of_actions.specs.declared.action.Action.{Action}
-use Rattle.of_actions.specs.declared.action.Action.TheVariants.{Output, Group, DecNwTtl}
+use Rattle.of_actions.specs.{declared.action.Action.Action, declared.action.Action.TheVariants.Output, declared.action.Action.TheVariants.Group, declared.action.Action.TheVariants.DecNwTtl}
 use Rattle.of_actions.specs.declared.instruction.Instruction.{Instruction}
 use Rattle.of_actions.specs.declared.instruction.Instruction.TheVariants.{Clear, Write, Goto}
 use Rattle.of_actions.specs.PortNumbers.{is_number}
-use Rattle.of_text.specs.Flows.{Flow}
-use Rattle.of_text.specs.Refusals.{some_action}
+use Rattle.of_text.specs.{Flows.Flow, Refusals.some_action}
 
 -- ---- OUTPUT to the ingress port: nothing leaves there, since only IN_PORT sends a packet back (4.5 and 7.2.1)
 

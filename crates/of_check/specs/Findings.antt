@@ -2,8 +2,7 @@
 use Rattle.std.specs.Prelude.{◌≡◌, ℕ, zero, suc, List, [], ◌∷◌, ◌++◌, length, map}
 use Rattle.std.specs.List.{Contains}
 use Rattle.of_table.specs.Tables.{Tables, table_at}
-use Rattle.of_check.specs.declared.finding.Finding.{Finding}
-use Rattle.of_check.specs.Verdicts.{VerdictHolds}
+use Rattle.of_check.specs.{declared.finding.Finding.Finding, Verdicts.VerdictHolds}
 
 -- an entry is named by its table, and its place there by age
 abbrev pub found_entry : Finding → ℕ × ℕ

@@ -3,12 +3,8 @@ use Rattle.std.specs.Prelude.{ℕ, ◌==◌, Bool, true, false, not, ◌&&◌, �
 use Rattle.std.specs.List.{list_any}
 use Rattle.of_actions.specs.declared.action.Action.{Action}
 use Rattle.of_groups.specs.declared.group.GroupKind.{GroupKind}
-use Rattle.of_groups.specs.declared.group.GroupKind.TheVariants.{All, Indirect, FastFailover}
-use Rattle.of_groups.specs.Buckets.{sends}
-use Rattle.of_text.specs.Flows.{Flow}
-use Rattle.of_text.specs.Groups.{TextBucket, TextGroup}
-use Rattle.of_text.specs.Refusals.{some_action}
-use Rattle.of_text.specs.Configs.{Configuration}
+use Rattle.of_groups.specs.{declared.group.GroupKind.TheVariants.All, declared.group.GroupKind.TheVariants.Indirect, declared.group.GroupKind.TheVariants.FastFailover, Buckets.sends}
+use Rattle.of_text.specs.{Flows.Flow, Groups.TextBucket, Groups.TextGroup, Refusals.some_action, Configs.Configuration}
 
 -- the action sends the packet to the group
 abbrev pub is_to_group : ℕ → Action → Bool

@@ -1,12 +1,9 @@
 -- WHAT OF AN ENTRY IS COMPARED FIRST: its priority, and a few fields of its match, each as its value and the bits that are looked at.
 use Rattle.std.specs.Prelude.{◌==◌, ◌&&◌, Bool, List, Option, Some, None, bit_and, map}
 use Rattle.of_layers.specs.declared.field.Field.TheVariants as field
-use Rattle.of_oxm.specs.declared.match_field.MatchField.{MatchField}
-use Rattle.of_oxm.specs.Masks.{first_at}
-use Rattle.of_oxm.specs.Relations.{bits_looked_at}
+use Rattle.of_oxm.specs.{declared.match_field.MatchField.MatchField, Masks.first_at, Relations.bits_looked_at}
 use Rattle.of_table.specs.Table.{FlowEntry}
-use Rattle.of_check.specs.declared.outline.Outline.{Outline}
-use Rattle.of_check.specs.declared.outline.Part.{Part}
+use Rattle.of_check.specs.{declared.outline.Outline.Outline, declared.outline.Part.Part}
 
 -- no bits of a field that the match does not have
 abbrev pub part_of : Option MatchField → Part

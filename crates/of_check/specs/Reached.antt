@@ -1,8 +1,7 @@
 -- WHERE A RUN LOOKS PACKETS UP: the tables that its lines tell (OpenFlow 1.3.5, 5.1).
 use Rattle.std.specs.Prelude.{ℕ, List, Option, Some, None, IfSome}
 use Rattle.std.specs.List.{AllByRecursion}
-use Rattle.of_machine.specs.declared.data.Step.{Step}
-use Rattle.of_machine.specs.declared.data.Step.TheVariants.{Miss, Entry}
+use Rattle.of_machine.specs.{declared.data.Step.Step, declared.data.Step.TheVariants.Miss, declared.data.Step.TheVariants.Entry}
 
 -- the table of a look-up
 abbrev pub looked_up : Step → Option ℕ

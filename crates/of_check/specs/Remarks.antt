@@ -2,16 +2,11 @@
 use Rattle.std.specs.Prelude.{ℕ, zero, suc, ◌==◌, Bool, true, false, not, ◌&&◌, List, [], ◌∷◌, ◌++◌, Option, Some, None, if◌then◌else◌}
 use Rattle.std.specs.List.{list_any, flat_map}
 use Rattle.of_oxm.specs.declared.match_field.MatchField.{MatchField}
-use Rattle.of_actions.specs.declared.instruction.Instruction.{Instruction}
-use Rattle.of_actions.specs.declared.instruction.Instruction.TheVariants.{Apply, Goto}
-use Rattle.of_text.specs.Flows.{Flow}
-use Rattle.of_text.specs.Groups.{TextGroup}
-use Rattle.of_text.specs.Configs.{Configuration}
-use Rattle.of_check.specs.declared.remark.Remark.{Remark}
+use Rattle.of_actions.specs.{declared.instruction.Instruction.Instruction, declared.instruction.Instruction.TheVariants.Apply, declared.instruction.Instruction.TheVariants.Goto}
+use Rattle.of_text.specs.{Flows.Flow, Groups.TextGroup, Configs.Configuration}
 use Rattle.of_check.specs.declared.remark.Remark.TheVariants.{Unreachable, NoTableMiss, EmptyGoto, IngressOutput, UnseenActions, UnusedGroup, NoBuckets}
-use Rattle.of_check.specs.Tables.{flows_at, is_reached, is_table_miss_flow, is_empty}
-use Rattle.of_check.specs.Actions.{required_port, some_output_to, silent, is_used_later}
-use Rattle.of_check.specs.Groups.{is_named}
+use Rattle.of_check.specs.{declared.remark.Remark.Remark, Tables.flows_at, Tables.is_reached, Tables.is_table_miss_flow, Tables.is_empty}
+use Rattle.of_check.specs.{Actions.required_port, Actions.some_output_to, Actions.silent, Actions.is_used_later, Groups.is_named}
 
 -- a remark, where it applies
 abbrev pub where_so : Bool → Remark → List Remark

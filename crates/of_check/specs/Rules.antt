@@ -1,7 +1,7 @@
 -- Fields that are in one header, so that a frame has all of them or none (OpenFlow 1.3.5, 7.2.3.7).
 use Rattle.std.specs.Prelude.{List, [], ◌∷◌}
-use Rattle.of_layers.specs.declared.field.Field.{Field}
 use Rattle.of_layers.specs.declared.field.Field.TheVariants.{IpDscp, IpEcn, IpProto, Ipv4Src, Ipv4Dst, TcpSrc, TcpDst, UdpSrc, UdpDst, Icmpv4Type, Icmpv4Code, ArpOp, ArpSpa, ArpTpa, ArpSha, ArpTha, Ipv6Src, Ipv6Dst, Ipv6Flabel, Icmpv6Type, Icmpv6Code}
+use Rattle.of_layers.specs.declared.field.Field.{Field}
 
 abbrev pub of_arp : List Field
 of_arp = ArpOp ∷ ArpSpa ∷ ArpTpa ∷ ArpSha ∷ ArpTha ∷ []

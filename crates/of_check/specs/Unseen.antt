@@ -1,8 +1,6 @@
 -- WORK THAT NOBODY SEES: the machine goes on, and emits and counts nothing.
 use Rattle.std.specs.Prelude.{◌≡◌, ℕ, List}
-use Rattle.of_machine.specs.TheWorld.{TheWorld}
-use Rattle.of_machine.specs.Rows.{Task}
-use Rattle.of_machine.specs.Runs.{Machine, after}
+use Rattle.of_machine.specs.{TheWorld.TheWorld, Rows.Task, Runs.Machine, Runs.after}
 
 -- after some steps these packets are left, with the same items and counts
 pub record ComesUnseen (w : TheWorld) (m : Machine) (tasks : List Task) : Type 0 where

@@ -1,19 +1,11 @@
 -- WHAT IS SAID OF A FLOW ENTRY: a packet with which it wins, or the entries that leave it none (OpenFlow 1.3.5, 5.3).
 use Rattle.std.specs.Prelude.{◌≡◌, ℕ, ◌^◌, ◌<◌, ◌≤◌, ◌⊎◌, ◌==◌, Bool, true, false, List, length, Option, Some, None, slice_get}
 use Rattle.std.specs.List.{Contains, list_any}
-use Rattle.of_layers.specs.declared.field.Field.{Field}
-use Rattle.of_layers.specs.Reading.{layers_of}
-use Rattle.of_layers.specs.WellFormed.{AreBytes}
+use Rattle.of_layers.specs.{declared.field.Field.Field, Reading.layers_of, WellFormed.AreBytes}
 use Rattle.of_headers.specs.FieldMap.{field_map}
-use Rattle.of_oxm.specs.declared.match_field.MatchField.{MatchField}
-use Rattle.of_oxm.specs.Relations.{covers_match, matches_map, overlaps_match}
-use Rattle.of_regions.specs.declared.region.Region.{Region}
-use Rattle.of_regions.specs.declared.rival.Rival.{Rival}
-use Rattle.of_regions.specs.Conditions.{AreConditions}
-use Rattle.of_regions.specs.Naming.{AreAscending}
-use Rattle.of_regions.specs.Regions.{InRegion}
-use Rattle.of_regions.specs.Searching.{IsStart, IsUndecided, LeavesUnreceived}
-use Rattle.of_regions.specs.Witness.{IsIngressPort}
+use Rattle.of_oxm.specs.{declared.match_field.MatchField.MatchField, Relations.covers_match, Relations.matches_map, Relations.overlaps_match}
+use Rattle.of_regions.specs.{declared.region.Region.Region, declared.rival.Rival.Rival, Conditions.AreConditions, Naming.AreAscending, Regions.InRegion}
+use Rattle.of_regions.specs.{Searching.IsStart, Searching.IsUndecided, Searching.LeavesUnreceived, Witness.IsIngressPort}
 use Rattle.of_table.specs.Table.{FlowEntry, winner_place}
 use Rattle.of_check.specs.declared.verdict.Verdict.{Verdict}
 use Rattle.of_check.specs.declared.verdict.Verdict.TheVariants.{Wins, Never, Unreceived, Open}

@@ -1,8 +1,7 @@
 //! Actions without effect.
 ghost use Rattle.std.specs.Prelude.{◌≡◌, ◌&&◌, ◌||◌, not, take};
 ghost use Rattle.std.specs.List.{list_any};
-ghost use Rattle.of_text.specs.Refusals.{some_action};
-ghost use Rattle.of_text.specs.Views.{view, view_flows, view_instruction};
+ghost use Rattle.of_text.specs.{Refusals.some_action, Views.view, Views.view_flows, Views.view_instruction};
 ghost use Rattle.of_check.specs.Actions.{is_clear as is_clearing, is_goto as is_going_on, is_in_port as is_ingress_field, is_output_to_port as is_sending_to, may_send_packet as may_be_sent, required_port as ingress_required, silent as silent_count, some_output_to as is_some_output, some_writes_sending, writes_sending as is_writing};
 
 use crate::tables::flows_of;

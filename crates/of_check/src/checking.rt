@@ -1,8 +1,7 @@
 //! The verdicts on all entries of a switch.
 ghost use Rattle.std.specs.Prelude.{◌≡◌, ◌<◌, suc, IfOk, OnOk};
 ghost use Rattle.std.specs.List.{list_any};
-ghost use Rattle.of_check.specs.Findings.{AreFindings, Checks, entries_below};
-ghost use Rattle.of_check.specs.Verdicts.{is_never as is_never_in};
+ghost use Rattle.of_check.specs.{Findings.AreFindings, Findings.Checks, Findings.entries_below, Verdicts.is_never as is_never_in};
 
 use crate::Remark;
 use crate::finding::Finding;

@@ -1,8 +1,7 @@
 //! Groups that nothing names.
-ghost use Rattle.std.specs.Prelude.{◌≡◌, ◌==◌, ◌&&◌, ◌||◌};
-ghost use Rattle.std.specs.List.{list_any};
-ghost use Rattle.of_text.specs.Refusals.{some_action};
+ghost use Rattle.std.specs.{Prelude.◌≡◌, Prelude.◌==◌, Prelude.◌&&◌, Prelude.◌||◌, List.list_any};
 ghost use Rattle.of_text.specs.Views.{view, view_flows, view_instruction, view_bucket, view_group, view_groups};
+ghost use Rattle.of_text.specs.Refusals.{some_action};
 ghost use Rattle.of_check.specs.Groups.{flow_names as is_flow_naming, group_names as is_group_naming, is_named as is_named_in, is_to_group as is_sending_to, is_watching as is_watching_kind, table_names as is_table_naming};
 
 use crate::tables::flows_of;

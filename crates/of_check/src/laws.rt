@@ -1,36 +1,20 @@
 //! What verdicts and remarks mean, and what comes of a file.
 ghost use Rattle.std.specs.Prelude.{◌≡◌, ◌≢◌, ◌≤◌, ◌<◌, ◌∷◌, ℕ, Bool, false, List, [], Option, Some, Ok, IsSome, ◌^◌, ◌++◌, true, length};
 ghost use Rattle.std.specs.List.{Contains, list_any};
-ghost use Rattle.of_layers.specs.declared.field.Field.{Field};
-ghost use Rattle.of_layers.specs.Reading.{layers_of};
-ghost use Rattle.of_layers.specs.WellFormed.{AreBytes};
+ghost use Rattle.of_layers.specs.{declared.field.Field.Field, Reading.layers_of, WellFormed.AreBytes};
 ghost use Rattle.of_headers.specs.FieldMap.{field_map};
-ghost use Rattle.of_actions.specs.declared.action.Action.{Action};
-ghost use Rattle.of_table.specs.Table.{FlowEntry, winner_place};
-ghost use Rattle.of_table.specs.declared.flow.Flow.{Flow};
+ghost use Rattle.of_actions.specs.{declared.action.Action.Action, declared.action.Action.TheVariants.Output, PortNumbers.is_number, declared.instruction.Instruction.Instruction};
+ghost use Rattle.of_table.specs.{Table.FlowEntry, Table.winner_place, declared.flow.Flow.Flow};
 ghost use Rattle.of_oxm.specs.declared.match_field.MatchField.{MatchField};
-ghost use Rattle.of_actions.specs.declared.action.Action.TheVariants.{Output};
-ghost use Rattle.of_actions.specs.PortNumbers.{is_number};
 ghost use Rattle.of_action_set.specs.Sets.{in_order};
-ghost use Rattle.of_actions.specs.declared.instruction.Instruction.{Instruction};
 ghost use Rattle.of_text.specs.Configs.{IsConfig};
-ghost use Rattle.of_check.specs.Tables.{IsReached, is_reached};
-ghost use Rattle.of_check.specs.Actions.{is_used_later, may_send_packet, required_port};
-ghost use Rattle.of_machine.specs.declared.data.Packet.{Packet as PacketInRun};
+ghost use Rattle.of_check.specs.{Tables.IsReached, Tables.is_reached, Actions.is_used_later, Actions.may_send_packet, Actions.required_port, Reached.AtTables, Rules.implied_fields};
+ghost use Rattle.of_check.specs.{Unseen.ComesUnseen, Verdicts.IsPacket, Verdicts.NeverWins, Verdicts.Packet, Verdicts.fields_of};
 ghost use Rattle.of_machine.specs.Rows.{Act, Lookup as LookUp, RunSet, Task, Work, acts, entering, key_of, task, works};
-ghost use Rattle.of_machine.specs.Sound.{IsSound};
 ghost use Rattle.of_machine.specs.Runs.{Machine, after, run_of, starting, step};
-ghost use Rattle.of_machine.specs.TheWorld.{TheWorld};
-ghost use Rattle.of_machine.specs.declared.data.Step.TheVariants.{Act as DidAct};
-ghost use Rattle.of_datapath.specs.Datapath.{Forwarding, flow_in, winner_in, world_of};
-ghost use Rattle.of_datapath.specs.Loading.{configuration_of};
-ghost use Rattle.of_replay.specs.Told.{Known, Left};
-ghost use Rattle.of_replay.specs.FileRuns.{Runs, TextOf, event_file, flow_text};
-ghost use Rattle.of_replay.specs.declared.event_file.Ended.TheVariants.{Done};
-ghost use Rattle.of_check.specs.Reached.{AtTables};
-ghost use Rattle.of_check.specs.Rules.{implied_fields};
-ghost use Rattle.of_check.specs.Unseen.{ComesUnseen};
-ghost use Rattle.of_check.specs.Verdicts.{IsPacket, NeverWins, Packet, fields_of};
+ghost use Rattle.of_machine.specs.{declared.data.Packet.Packet as PacketInRun, Sound.IsSound, TheWorld.TheWorld, declared.data.Step.TheVariants.Act as DidAct};
+ghost use Rattle.of_datapath.specs.{Datapath.Forwarding, Datapath.flow_in, Datapath.winner_in, Datapath.world_of, Loading.configuration_of};
+ghost use Rattle.of_replay.specs.{Told.Known, Told.Left, FileRuns.Runs, FileRuns.TextOf, FileRuns.event_file, FileRuns.flow_text, declared.event_file.Ended.TheVariants.Done};
 
 /// An entry that never wins is the winner of no packet.
 pub fn never_is_never()

@@ -1,8 +1,7 @@
 //! A few fields of a match, by which most pairs of entries are told apart.
 ghost use Rattle.std.specs.Prelude.{◌≡◌, ◌<◌, IfOk};
 ghost use Rattle.of_oxm.specs.Masks.{first_at};
-ghost use Rattle.of_table.specs.Entries.{entry_of};
-ghost use Rattle.of_table.specs.Tables.{table_at};
+ghost use Rattle.of_table.specs.{Entries.entry_of, Tables.table_at};
 ghost use Rattle.of_check.specs.Outlines.{outline_of, outlines_agree, outlines_of as outlines_in, part_of, parts_agree};
 
 use of_classifier::Lookup;

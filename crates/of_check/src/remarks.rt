@@ -2,9 +2,8 @@
 ghost use Rattle.std.specs.Prelude.{◌≡◌, ◌++◌, ◌<◌, IfOk, OnOk, take};
 ghost use Rattle.std.specs.List.{flat_map, list_any};
 ghost use Rattle.of_text.specs.Views.{view, view_flows, view_group, view_groups, view_instruction};
-ghost use Rattle.of_check.specs.Actions.{some_writes_sending};
-ghost use Rattle.of_check.specs.Tables.{flows_at, reached_below};
 ghost use Rattle.of_check.specs.Remarks.{end_remarks, flow_remarks, flows_remarks, goto_remarks, group_remarks, ingress_remarks, remarks_below, remarks_on as all_remarks, table_remarks, unseen_remarks, where_so};
+ghost use Rattle.of_check.specs.{Actions.some_writes_sending, Tables.flows_at, Tables.reached_below};
 
 use crate::actions::{is_used_later, is_written_before, required_port, silent, some_output_to};
 use crate::groups::is_named;

@@ -1,12 +1,9 @@
 //! The entries that leave one fewer packets.
 ghost use Rattle.std.specs.Prelude.{◌≡◌, ◌<◌, ◌⊎◌, ◌↔◌, ℕ, Some, IfNone, IfOk, IfSome, IsTrue, false, true, slice_get};
 ghost use Rattle.std.specs.Option.{option_map};
-ghost use Rattle.of_oxm.specs.NormalForm.{IsMatch};
-ghost use Rattle.of_oxm.specs.Relations.{overlaps_match};
-ghost use Rattle.of_table.specs.Entries.{entry_of};
-ghost use Rattle.of_table.specs.Tables.{table_at};
-ghost use Rattle.of_check.specs.Outlines.{outline_of, outlines_agree, outlines_of as outlines_in};
-ghost use Rattle.of_check.specs.Verdicts.{AreRivals, Covers, GoesBefore, is_covering};
+ghost use Rattle.of_oxm.specs.{NormalForm.IsMatch, Relations.overlaps_match};
+ghost use Rattle.of_table.specs.{Entries.entry_of, Tables.table_at};
+ghost use Rattle.of_check.specs.{Outlines.outline_of, Outlines.outlines_agree, Outlines.outlines_of as outlines_in, Verdicts.AreRivals, Verdicts.Covers, Verdicts.GoesBefore, Verdicts.is_covering};
 
 use crate::outline::{Outline, may_overlap, outlined};
 use of_classifier::Lookup;

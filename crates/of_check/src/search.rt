@@ -1,9 +1,7 @@
 //! The verdict on an entry.
 ghost use Rattle.std.specs.Prelude.{◌≡◌, ◌<◌, ℕ, Some, IfOk, slice_get};
-ghost use Rattle.of_table.specs.Entries.{entry_of};
-ghost use Rattle.of_table.specs.Tables.{table_at};
-ghost use Rattle.of_check.specs.Outlines.{outlines_of as outlines_in};
-ghost use Rattle.of_check.specs.Verdicts.{AreRivals, Covers, VerdictHolds};
+ghost use Rattle.of_table.specs.{Entries.entry_of, Tables.table_at};
+ghost use Rattle.of_check.specs.{Outlines.outlines_of as outlines_in, Verdicts.AreRivals, Verdicts.Covers, Verdicts.VerdictHolds};
 
 use crate::outline::{Outline, outlines_of};
 use crate::rivals::{first_cover, rivals_of};

@@ -1,8 +1,6 @@
 //! The tables that packets come to.
-ghost use Rattle.std.specs.Prelude.{◌≡◌, ◌==◌, IfOk};
-ghost use Rattle.std.specs.List.{list_any};
-ghost use Rattle.of_text.specs.Flows.{goes_to as is_going_to};
-ghost use Rattle.of_text.specs.Views.{view, view_flows, view_instruction};
+ghost use Rattle.std.specs.{Prelude.◌≡◌, Prelude.◌==◌, Prelude.IfOk, List.list_any};
+ghost use Rattle.of_text.specs.{Flows.goes_to as is_going_to, Views.view, Views.view_flows, Views.view_instruction};
 ghost use Rattle.of_check.specs.Tables.{flows_at, leads_to_table as is_leading, is_led_to as are_leading, is_table_miss_flow as is_table_miss, is_reached as is_reached_in, reached_below};
 
 use of_text::{Config, FlowText, InstructionText};

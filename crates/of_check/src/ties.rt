@@ -1,7 +1,6 @@
 //! Entries of equal priority.
 ghost use Rattle.std.specs.Prelude.{◌≡◌, ◌<◌, Some, slice_get};
-ghost use Rattle.of_table.specs.Entries.{entry_of};
-ghost use Rattle.of_table.specs.Tables.{table_at};
+ghost use Rattle.of_table.specs.{Entries.entry_of, Tables.table_at};
 ghost use Rattle.of_check.specs.Verdicts.{are_level, is_tie};
 
 use of_classifier::Lookup;

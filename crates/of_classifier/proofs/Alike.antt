@@ -1,19 +1,11 @@
 -- Field maps that agree in all bits that entries look at have one winner.
 use Rattle.std.proofs.Common.{◌≡◌, ℕ, ◌+◌, ◌<◌, Bool, cond, List, [], ◌∷◌, ◌++◌, length, get_or, take, Option, Some, None, refl, sym, ◌∙◌, ap, subst, arith}
-use Rattle.std.specs.Prelude.{bit_and, bit_or}
-use Rattle.std.specs.Int.{bit_at}
-use Rattle.std.specs.List.{All}
-use Rattle.std.proofs.lemmas.List.{take_more}
-use Rattle.std.proofs.lemmas.List.Elements.{All-head, All-tail}
-use Rattle.std.proofs.lemmas.Nat.Bits.{bit_at_and, bit_at_or, same_from_bits}
+use Rattle.std.{specs.Prelude.bit_and, specs.Prelude.bit_or, specs.Int.bit_at, specs.List.All, proofs.lemmas.List.take_more}
+use Rattle.std.proofs.{lemmas.List.Elements.All-head, lemmas.List.Elements.All-tail, lemmas.Nat.Bits.bit_at_and, lemmas.Nat.Bits.bit_at_or, lemmas.Nat.Bits.same_from_bits}
 use Rattle.of_layers.specs.declared.field.Field.{Field}
 use Rattle.of_headers.specs.FieldMap.{seen, either}
-use Rattle.of_oxm.specs.NormalForm.{IsMatch}
-use Rattle.of_oxm.specs.Masks.{looked_at, Agree}
-use Rattle.of_oxm.proofs.Seen.{matched_alike}
-use Rattle.of_classifier.specs.declared.Row.{Row}
-use Rattle.of_classifier.specs.Winner.{is_matching, matching}
-use Rattle.of_classifier.specs.Looking.{looked_by}
+use Rattle.of_oxm.{specs.NormalForm.IsMatch, specs.Masks.looked_at, specs.Masks.Agree, proofs.Seen.matched_alike}
+use Rattle.of_classifier.specs.{declared.Row.Row, Winner.is_matching, Winner.matching, Looking.looked_by}
 
 -- ---- two masks in one
 

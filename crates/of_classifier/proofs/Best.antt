@@ -1,15 +1,9 @@
 -- The winner, one more entry at a time.
 use Rattle.std.proofs.Common.{◌≡◌, ℕ, ◌+◌, ◌<◌, Bool, true, false, cond, List, [], ◌∷◌, ◌++◌, length, get_or, take, Option, Some, None, refl, ◌∙◌, ap}
-use Rattle.std.specs.Prelude.{nat_le}
-use Rattle.std.proofs.lemmas.List.{take_more, append-nil}
-use Rattle.std.proofs.lemmas.List.Elements.{filter-append}
+use Rattle.std.{specs.Prelude.nat_le, proofs.lemmas.List.take_more, proofs.lemmas.List.append-nil, proofs.lemmas.List.Elements.filter-append}
 use Rattle.of_layers.specs.declared.field.Field.{Field}
-use Rattle.of_wire.specs.Highest.{oldest_highest}
-use Rattle.of_wire.proofs.HighestLemmas.{better, oldest_more}
-use Rattle.of_classifier.specs.declared.Row.{Row}
-use Rattle.of_classifier.specs.Rows.{row_priority}
-use Rattle.of_classifier.specs.Winner.{is_matching, matching, winner_of}
-use Rattle.of_classifier.specs.Scanning.{pair_of, better_of}
+use Rattle.of_wire.{specs.Highest.oldest_highest, proofs.HighestLemmas.better, proofs.HighestLemmas.oldest_more}
+use Rattle.of_classifier.specs.{declared.Row.Row, Rows.row_priority, Winner.is_matching, Winner.matching, Winner.winner_of, Scanning.pair_of, Scanning.better_of}
 
 pair-better : (o : Option Row) (r : Row) → pair_of (better row_priority o r) ≡ better_of (pair_of o) r
 pair-better None r = refl

@@ -1,7 +1,6 @@
 -- The first element that passes, by its place.
 use Rattle.std.proofs.Common.{◌≡◌, ℕ, ◌<◌, zero, suc, Bool, true, false, cond, List, [], ◌∷◌, Option, Some, refl, sym, ap, subst, arith}
-use Rattle.std.specs.Prelude.{find, filter, slice_get, ◌&&◌}
-use Rattle.std.specs.List.{list_all}
+use Rattle.std.specs.{Prelude.find, Prelude.filter, Prelude.slice_get, Prelude.◌&&◌, List.list_all}
 
 -- it stands there and passes, and none before it does
 pub record FoundAt {X : Type 0} (p : X → Bool) (xs : List X) (place : ℕ) (x : X) : Type 0 where

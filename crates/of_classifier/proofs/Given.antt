@@ -1,13 +1,9 @@
 -- The numbers that a slab has assigned.
 use Rattle.std.proofs.Common.{◌≡◌, ℕ, Bool, true, false, not, eqb, List, [], ◌∷◌, ◌++◌, Option, Some, None, refl, arith}
-use Rattle.std.specs.Prelude.{filter, is_some}
-use Rattle.std.proofs.lemmas.Bool.Decides.{nat_tests, eqb_tells}
-use Rattle.std.proofs.lemmas.List.Folds.{list_all-append}
+use Rattle.std.{specs.Prelude.filter, specs.Prelude.is_some, proofs.lemmas.Bool.Decides.nat_tests, proofs.lemmas.Bool.Decides.eqb_tells, proofs.lemmas.List.Folds.list_all-append}
 use Rattle.slab.specs.Slab.{Slab, get, Updates}
 use Rattle.of_wire.specs.Numbered.{is_used, without, only, moved_to_end}
-use Rattle.of_classifier.specs.declared.Row.{Row}
-use Rattle.of_classifier.specs.Rows.{row_number}
-use Rattle.of_classifier.specs.Scanning.{are_given}
+use Rattle.of_classifier.specs.{declared.Row.Row, Rows.row_number, Scanning.are_given}
 
 -- a number that the slab has nothing at is not used
 pub unused_of_vacant : {T : Type 0} (slab : Slab T) (rows : List Row) (n : ℕ) → are_given slab rows ≡ true → get slab n ≡ None → is_used row_number n rows ≡ false

@@ -1,12 +1,9 @@
 -- What `same` finds is an entry.
 use Rattle.std.proofs.Common.{◌≡◌, ℕ, Bool, true, false, cond, eqb, ◌||◌, List, [], ◌∷◌, Option, Some, refl}
-use Rattle.std.specs.Prelude.{find}
-use Rattle.std.proofs.lemmas.Bool.{eq-eqb}
+use Rattle.std.{specs.Prelude.find, proofs.lemmas.Bool.eq-eqb}
 use Rattle.of_oxm.specs.declared.match_field.MatchField.{MatchField}
 use Rattle.of_wire.specs.Numbered.{is_used}
-use Rattle.of_classifier.specs.declared.Row.{Row}
-use Rattle.of_classifier.specs.Rows.{row_number, is_same_row, same_of}
-use Rattle.of_classifier.specs.Winner.{winner_number}
+use Rattle.of_classifier.specs.{declared.Row.Row, Rows.row_number, Rows.is_same_row, Rows.same_of, Winner.winner_number}
 
 or_true : (a : Bool) → (a || true) ≡ true
 or_true true = refl

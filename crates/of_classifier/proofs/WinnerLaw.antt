@@ -1,16 +1,12 @@
 -- The winner is the oldest of the matching entries of the highest priority.
 use Rattle.std.proofs.Common.{◌≡◌, ℕ, ◌<◌, ◌≤◌, Bool, true, false, List, Option, Some, None, refl, sym, ap, subst, ◌∙◌, arith, inl, inr, ◌⊎◌}
 use Rattle.std.specs.Prelude.{find, nat_le, slice_get, ◌&&◌, ◌↔◌}
-use Rattle.std.specs.List.{list_all}
-use Rattle.std.proofs.lemmas.Bool.{cases_lt}
-use Rattle.std.proofs.lemmas.Bool.Decides.{nat_tests}
+use Rattle.std.{specs.List.list_all, proofs.lemmas.Bool.cases_lt, proofs.lemmas.Bool.Decides.nat_tests}
 use Rattle.of_layers.specs.declared.field.Field.{Field}
-use Rattle.of_wire.specs.Highest.{is_highest, oldest_highest}
-use Rattle.of_wire.proofs.HighestLemmas.{oldest_highest-none}
-use Rattle.of_classifier.specs.declared.Row.{Row}
-use Rattle.of_classifier.specs.Rows.{row_priority}
+use Rattle.of_wire.{specs.Highest.is_highest, specs.Highest.oldest_highest, proofs.HighestLemmas.oldest_highest-none}
 use Rattle.of_classifier.specs.Winner.{is_matching, matching, winner_of, Wins, NoneMatches}
 use Rattle.of_classifier.proofs.Finding.{FoundAt, found_at, find_from, find-filter, kept_at, kept_all, filter_empty, filter_none}
+use Rattle.of_classifier.specs.{declared.Row.Row, Rows.row_priority}
 
 -- it matches, and no matching entry has a higher priority
 abbrev tops : List Row → (Field → Option ℕ) → Row → Bool

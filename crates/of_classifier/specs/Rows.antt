@@ -1,7 +1,6 @@
 -- The entries of a classifier, oldest first, by their numbers and priorities.
 use Rattle.std.specs.Prelude.{ℕ, Bool, ◌==◌, ◌&&◌, List, Option, find, option_map}
-use Rattle.of_oxm.specs.declared.match_field.MatchField.{MatchField}
-use Rattle.of_oxm.specs.SameMatch.{is_same_match}
+use Rattle.of_oxm.specs.{declared.match_field.MatchField.MatchField, SameMatch.is_same_match}
 use Rattle.of_classifier.specs.declared.Row.{Row}
 
 abbrev pub made_row : ℕ → ℕ → List MatchField → Row

@@ -3,8 +3,7 @@ use Rattle.std.specs.Prelude.{◌≡◌, ◌≤◌, ℕ, Bool, true, false, List
 use Rattle.of_layers.specs.declared.field.Field.{Field}
 use Rattle.of_wire.specs.Highest.{oldest_highest}
 use Rattle.of_oxm.specs.Relations.{matches_map}
-use Rattle.of_classifier.specs.declared.Row.{Row}
-use Rattle.of_classifier.specs.Rows.{row_priority}
+use Rattle.of_classifier.specs.{declared.Row.Row, Rows.row_priority}
 
 -- the entry matches the frame
 abbrev pub is_matching : (Field → Option ℕ) → Row → Bool

@@ -8,10 +8,8 @@ ghost use Rattle.std.specs.Prelude.{◌≡◌, ◌++◌, ℕ, List, [], ◌∷�
 ghost use Rattle.of_layers.specs.declared.field.Field.{Field};
 ghost use Rattle.of_headers.specs.FieldMap.{value};
 ghost use Rattle.of_wire.specs.Numbered.{is_used, is_distinct, without, moved_to_end};
-ghost use Rattle.of_classifier.specs.declared.Row.{Row};
+ghost use Rattle.of_classifier.specs.{declared.Row.Row, Rows.made_row, Rows.row_number, Rows.same_of, Rows.priority_of, Winner.winner_of, Winner.winner_number};
 ghost use Rattle.of_oxm.specs.Masks.{mask_at, Agree};
-ghost use Rattle.of_classifier.specs.Rows.{made_row, row_number, same_of, priority_of};
-ghost use Rattle.of_classifier.specs.Winner.{winner_of, winner_number};
 
 pub use laws::one_winner;
 use of_headers::FieldKey;

@@ -4,11 +4,7 @@ ghost use Rattle.of_layers.specs.declared.field.Field.{Field};
 ghost use Rattle.of_headers.specs.FieldMap.{value};
 ghost use Rattle.of_oxm.specs.Masks.{mask_at, Agree};
 ghost use Rattle.of_wire.specs.Numbered.{is_used, is_distinct, without, moved_to_end};
-ghost use Rattle.of_classifier.specs.declared.Row.{Row};
-ghost use Rattle.of_classifier.specs.Rows.{row_number, is_same_row};
-ghost use Rattle.of_classifier.specs.Winner.{matching, winner_of, winner_number};
-ghost use Rattle.of_classifier.specs.Scanning.{better_of};
-ghost use Rattle.of_classifier.specs.Looking.{looked_by};
+ghost use Rattle.of_classifier.specs.{declared.Row.Row, Rows.row_number, Rows.is_same_row, Winner.matching, Winner.winner_of, Winner.winner_number, Scanning.better_of, Looking.looked_by};
 
 use crate::{Lookup, Row};
 use of_headers::FieldKey;
@@ -27,9 +23,7 @@ pub struct Scan {
 impl Model for Scan {
     ghost use Rattle.std.specs.Prelude.{List, IsTrue};
     ghost use Rattle.of_wire.specs.Numbered.{is_distinct};
-    ghost use Rattle.of_classifier.specs.declared.Row.{Row};
-    ghost use Rattle.of_classifier.specs.Rows.{row_number};
-    ghost use Rattle.of_classifier.specs.Scanning.{are_given};
+    ghost use Rattle.of_classifier.specs.{declared.Row.Row, Rows.row_number, Scanning.are_given};
 
     ghost Value = { List Row };
 

@@ -20,8 +20,7 @@ mod saying;
 mod serving;
 mod switch_file;
 
-ghost use Rattle.std.specs.Prelude.{◌≡◌};
-ghost use Rattle.std.specs.Iterator.{IsFinite};
+ghost use Rattle.std.specs.{Prelude.◌≡◌, Iterator.IsFinite};
 ghost use Rattle.of_command_line.specs.declared.NoRequest.TheVariants.{NoMemory};
 
 use brief::brief_help;

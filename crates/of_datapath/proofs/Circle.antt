@@ -1,8 +1,7 @@
 -- Ids in their circle, and the places of those that were given last.
 use Rattle.std.proofs.Common.{if◌then◌else◌, ◌≡◌, ℕ, suc, ◌+◌, ◌-◌, ◌%◌, ◌<◌, ◌≤◌, true, false, List, [], ◌∷◌, ◌++◌, length, take, get_or, set, slice_get, Option, Some, None, sym, ap, ◌∙◌, arith, get_or-set_same, refl, nat_lt, Bool}
-use Rattle.std.proofs.lemmas.Bool.Decides.{nat_tests}
 use Rattle.std.proofs.lemmas.List.{get_or-take, length-take, get_or_past, length-set, set_past}
-use Rattle.std.proofs.lemmas.Option.{slice_get-get_or, get_or_from_slice_get}
+use Rattle.std.proofs.{lemmas.Bool.Decides.nat_tests, lemmas.Option.slice_get-get_or, lemmas.Option.get_or_from_slice_get}
 use Rattle.of_datapath.specs.Buffers.{Held, HeldFrames, id_following, given_since, held, hold, hold_all, is_id, last_id, most_held, used}
 
 -- one more id was given since

@@ -1,52 +1,29 @@
 -- What a switch keeps is a configuration, and one that was loaded is returned again.
 use Rattle.std.proofs.Common.{◌≡◌, ℕ, zero, suc, ◌+◌, ◌<◌, ◌≤◌, eqb, ltb, Bool, true, false, not, cond, List, [], ◌∷◌, ◌++◌, length, take, get_or, Some, refl, sym, ◌∙◌, ap, subst, append_assoc, add-one, arith}
 use Rattle.std.specs.Prelude.{◌&&◌, ◌||◌, map, bit_and, slice_index_or}
-use Rattle.std.specs.List.{AllByRecursion, list_all, list_any}
-use Rattle.std.specs.Option.{option_map_or}
-use Rattle.std.proofs.lemmas.Bool.{and_parts, eq-eqb, eqb-true, leb-true}
-use Rattle.std.proofs.lemmas.Bool.Decides.{nat_tests}
-use Rattle.std.proofs.lemmas.Nat.{and_le_r}
-use Rattle.std.proofs.lemmas.List.{append-nil, length-map, length-append, map-append}
-use Rattle.std.proofs.Math.ListN.{get_or-map}
-use Rattle.std.specs.Global.{Vec}
-use Rattle.of_actions.specs.InstructionLists.{are_kept, are_for}
-use Rattle.of_actions.specs.Rising.{is_ascending}
+use Rattle.std.specs.{List.AllByRecursion, List.list_all, List.list_any, Option.option_map_or, Global.Vec}
+use Rattle.std.proofs.{lemmas.Bool.and_parts, lemmas.Bool.eq-eqb, lemmas.Bool.eqb-true, lemmas.Bool.leb-true, lemmas.Bool.Decides.nat_tests, lemmas.Nat.and_le_r}
+use Rattle.std.proofs.{lemmas.List.append-nil, lemmas.List.length-map, lemmas.List.length-append, lemmas.List.map-append, Math.ListN.get_or-map}
+use Rattle.of_actions.specs.{InstructionLists.are_kept, InstructionLists.are_for, Rising.is_ascending}
 use Rattle.of_oxm.specs.SameMatch.{is_same_match}
-use Rattle.of_groups.specs.declared.bucket.Bucket.{Bucket}
-use Rattle.of_groups.specs.declared.group.Group.{Group}
-use Rattle.of_groups.specs.declared.group.GroupKind.{GroupKind}
-use Rattle.of_groups.specs.declared.group.GroupKind.TheVariants.{All, Indirect, FastFailover}
 use Rattle.of_groups.specs.Buckets.{sends, any_sends, watches, is_badly_watched, are_fit, is_fit as is_fit_bucket}
 use Rattle.of_groups.specs.Groups.{group_number, find_group, is_there, any_named, any_watches, names}
-use Rattle.of_groups.specs.Chains.{names_next, is_chain}
-use Rattle.of_groups.specs.Faults.{is_absent, is_bad_watch, is_not_one}
-use Rattle.of_groups.specs.Sound.{is_fit_group, AreSound as AreSoundGroups}
-use Rattle.of_table.specs.declared.flow.FlowFlags.{FlowFlags}
+use Rattle.of_groups.specs.{declared.bucket.Bucket.Bucket, declared.group.Group.Group, declared.group.GroupKind.GroupKind}
+use Rattle.of_groups.specs.declared.group.GroupKind.TheVariants.{All, Indirect, FastFailover}
+use Rattle.of_groups.specs.{Chains.names_next, Chains.is_chain, Faults.is_absent, Faults.is_bad_watch, Faults.is_not_one, Sound.is_fit_group, Sound.AreSound as AreSoundGroups}
 use Rattle.of_table.specs.Table.{FlowEntry, Table, empty_table, kept_flags, flags_number, bit}
-use Rattle.of_table.specs.Tables.{NumberedTables, tables_of, table_at}
-use Rattle.of_table.specs.declared.entry.Entry.{Entry}
-use Rattle.of_table.specs.Entries.{Numbered, no_entries, flows_of, table_of}
 use Rattle.of_table.specs.Sound.{AreSoundEntries, Key, entry_key, is_same_key, are_unlike, is_entry_fit, is_checked}
-use Rattle.of_table.specs.Selecting.{has_action}
+use Rattle.of_table.specs.{declared.flow.FlowFlags.FlowFlags, Tables.NumberedTables, Tables.tables_of, Tables.table_at, declared.entry.Entry.Entry}
+use Rattle.of_table.specs.{Entries.Numbered, Entries.no_entries, Entries.flows_of, Entries.table_of, Selecting.has_action}
 use Rattle.of_table.proofs.AddLemmas.{same_is, is_itself}
 use Rattle.of_ports.specs.declared.port.Port.{Port}
-use Rattle.of_text.specs.Flows.{Flow as TextFlow}
 use Rattle.of_text.specs.Groups.{TextBucket, TextGroup, bucket_of, bucket_text, group_at, groups_at, group_text, rows_of_groups}
-use Rattle.of_text.specs.Refusals.{names_absent, has_same_match as is_same_text}
-use Rattle.of_text.specs.Rows.{Fits}
-use Rattle.of_text.specs.Kept.{AllStandBehind, AreKeptGroups, IsEntry, IsKeptFlow}
+use Rattle.of_text.specs.{Flows.Flow as TextFlow, Refusals.names_absent, Refusals.has_same_match as is_same_text, Rows.Fits, Kept.AllStandBehind, Kept.AreKeptGroups, Kept.IsEntry, Kept.IsKeptFlow}
 use Rattle.of_text.specs.KeptConfigs.{IsHeaded, AreKeptFlows, AreKeptTables, IsKeptConfig}
-use Rattle.of_text.specs.Configs.{Configuration, IsConfig, view_table, view_tables}
-use Rattle.of_text.specs.declared.flow.FlowText.{FlowText}
-use Rattle.of_text.specs.Views.{view, view_flows}
-use Rattle.of_text.proofs.ConfigLemmas.{AllFor, all_for}
-use Rattle.of_text.proofs.EntryLemmas.{config_stands}
-use Rattle.of_text.proofs.FillLemmas.{sixteen, table_at as text_table_at}
-use Rattle.of_datapath.specs.Commands.{flags_of}
-use Rattle.of_datapath.specs.Configuring.{AreKeptEntries, AreKeptFrom}
+use Rattle.of_text.specs.{Configs.Configuration, Configs.IsConfig, Configs.view_table, Configs.view_tables, declared.flow.FlowText.FlowText, Views.view, Views.view_flows}
+use Rattle.of_text.proofs.{ConfigLemmas.AllFor, ConfigLemmas.all_for, EntryLemmas.config_stands, FillLemmas.sixteen, FillLemmas.table_at as text_table_at}
 use Rattle.of_datapath.specs.Loading.{configuration_of, loaded_entry, loaded_table, loaded_tables, flow_kept, entry_text, table_text, texts_from}
-use Rattle.of_datapath.specs.Buffers.{HeldFrames}
-use Rattle.of_datapath.specs.Numbers.{without_numbers}
+use Rattle.of_datapath.specs.{Commands.flags_of, Configuring.AreKeptEntries, Configuring.AreKeptFrom, Buffers.HeldFrames, Numbers.without_numbers}
 use Rattle.of_datapath.specs.Standing.{names_existing_groups, all_name_existing_groups, is_numbered, GroupsExist}
 use Rattle.of_datapath.proofs.StandingLemmas.{absent_mapped, same_named}
 

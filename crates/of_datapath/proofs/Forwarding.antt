@@ -4,23 +4,14 @@ use Rattle.std.proofs.lemmas.List.Elements.{All-weaker}
 use Rattle.of_table.specs.Tables.{NumberedTables}
 use Rattle.of_groups.specs.declared.group.Group.{Group}
 use Rattle.of_ports.specs.declared.port.Port.{Port}
-use Rattle.of_machine.specs.declared.data.Item.{Item}
-use Rattle.of_machine.specs.declared.data.Count.{Count}
-use Rattle.of_machine.specs.declared.data.Packet.{Packet}
-use Rattle.of_machine.specs.Growth.{AllShort, frame_of}
-use Rattle.of_machine.specs.Rows.{Work}
-use Rattle.of_machine.specs.Runs.{Machine, run_of}
-use Rattle.of_machine.specs.Renumbering.{renumbered_machine}
-use Rattle.of_machine.proofs.Renumbering.{run_is_renumbered}
-use Rattle.of_datapath.specs.declared.control.AsyncConfig.{AsyncConfig}
-use Rattle.of_datapath.specs.declared.effect.Effect.{Effect}
+use Rattle.of_machine.specs.{declared.data.Item.Item, declared.data.Count.Count, declared.data.Packet.Packet, Growth.AllShort, Growth.frame_of, Rows.Work, Runs.Machine, Runs.run_of}
+use Rattle.of_machine.{specs.Renumbering.renumbered_machine, proofs.Renumbering.run_is_renumbered}
 use Rattle.of_datapath.specs.Told.{each_told, effects_of, frames_for, given_items, held_after}
-use Rattle.of_datapath.specs.Applying.{with_held, with_reception, without_used}
-use Rattle.of_datapath.specs.declared.reception.Reception.{Reception}
 use Rattle.of_datapath.specs.Datapath.{Forwarding, world_of, applied, forwards, all_sent, all_tallied}
 use Rattle.of_datapath.specs.Buffers.{Held, HeldFrames, given_since, hold_all, is_id, none_held, used}
 use Rattle.of_datapath.specs.Numbers.{Contents, contents, without_numbers, numbered_world, place_in, all_placed}
-use Rattle.of_datapath.proofs.Worlds.{AreDistinct, renumbered_world}
+use Rattle.of_datapath.specs.{declared.control.AsyncConfig.AsyncConfig, declared.effect.Effect.Effect, Applying.with_held, Applying.with_reception, Applying.without_used}
+use Rattle.of_datapath.{specs.declared.reception.Reception.Reception, proofs.Worlds.AreDistinct, proofs.Worlds.renumbered_world}
 
 -- what is done by places, of a run by numbers
 by_places : (heard : AsyncConfig) (seen : List Port) (p : Packet) (work : List Work) (t : NumberedTables) (groups : List Group) (ports : List Port) (f : Forwarding) → AreDistinct t

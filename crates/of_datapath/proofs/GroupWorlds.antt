@@ -1,21 +1,10 @@
 -- The groups as the machine sees them.
 use Rattle.std.proofs.Common.{◌≡◌, ℕ, ◌<◌, Bool, true, false, eqb, List, [], ◌∷◌, Option, Some, None, Bor, refl, ◌∙◌}
-use Rattle.std.specs.List.{list_any}
-use Rattle.std.specs.Prelude.{not}
-use Rattle.std.specs.Option.{option_copied, is_some}
-use Rattle.std.proofs.lemmas.Bool.{eq-eqb}
-use Rattle.of_actions.specs.declared.action.Action.{Action}
-use Rattle.of_actions.specs.declared.action.Action.TheVariants.{Group as ToGroup}
-use Rattle.of_groups.specs.declared.group.Group.{Group}
-use Rattle.of_groups.specs.Buckets.{sends}
-use Rattle.of_groups.specs.Groups.{bucket_at, find_group}
-use Rattle.of_groups.specs.Chains.{chain}
-use Rattle.of_groups.specs.Faults.{is_absent}
-use Rattle.of_groups.proofs.ChainLemmas.{there_found}
-use Rattle.of_groups.proofs.NameLemmas.{or_first, or_true}
-use Rattle.of_groups.proofs.WorldLemmas.{IsServed, AllServed}
-use Rattle.of_machine.specs.TheWorld.{TheWorld}
-use Rattle.of_machine.specs.Sound.{IsBelow, AllBelow, IsBucket, AllBuckets}
+use Rattle.std.{specs.List.list_any, specs.Prelude.not, specs.Option.option_copied, specs.Option.is_some, proofs.lemmas.Bool.eq-eqb}
+use Rattle.of_actions.specs.{declared.action.Action.Action, declared.action.Action.TheVariants.Group as ToGroup}
+use Rattle.of_groups.specs.{declared.group.Group.Group, Buckets.sends, Groups.bucket_at, Groups.find_group, Chains.chain, Faults.is_absent}
+use Rattle.of_groups.proofs.{ChainLemmas.there_found, NameLemmas.or_first, NameLemmas.or_true, WorldLemmas.IsServed, WorldLemmas.AllServed}
+use Rattle.of_machine.specs.{TheWorld.TheWorld, Sound.IsBelow, Sound.AllBelow, Sound.IsBucket, Sound.AllBuckets}
 
 -- a group that is not found does not exist
 pub none_absent : (n : ℕ) (groups : List Group) (found : Option (Bor Group)) (none : Bool) → is_some found ≡ not none → option_copied found ≡ find_group n groups → none ≡ is_absent groups n

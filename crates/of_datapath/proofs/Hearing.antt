@@ -2,8 +2,7 @@
 use Rattle.std.proofs.Common.{◌≡◌, ℕ, List, [], ◌∷◌, refl, ap}
 use Rattle.std.specs.Prelude.{map, filter}
 use Rattle.of_table.specs.Selecting.{Notice}
-use Rattle.of_datapath.specs.declared.control.AsyncConfig.{AsyncConfig}
-use Rattle.of_datapath.specs.Commands.{is_notice_admitted, notice_effect, notice_effects}
+use Rattle.of_datapath.specs.{declared.control.AsyncConfig.AsyncConfig, Commands.is_notice_admitted, Commands.notice_effect, Commands.notice_effects}
 
 none_passes : (heard : AsyncConfig) (ns : List Notice) → heard.flow_removed ≡ 0 → filter (is_notice_admitted heard) ns ≡ []
 none_passes heard [] e = refl

@@ -3,13 +3,10 @@ use Rattle.std.proofs.Common.{◌≡◌, ◌<◌, ◌+◌, ℕ, Bool, true, fals
 use Rattle.std.proofs.lemmas.Grind.{flat_map-append}
 use Rattle.of_wire.specs.declared.limits.TheConstants.{OFP_NO_BUFFER}
 use Rattle.of_datapath.specs.Buffers.{Held, HeldFrames, held, hold, hold_all, is_id, last_id, most_held}
-use Rattle.of_datapath.proofs.Circle.{all_is_id, held_under, others_under}
-use Rattle.of_machine.specs.declared.data.Item.{Item}
-use Rattle.of_machine.specs.declared.data.Item.TheVariants.{Sent, PacketIn}
-use Rattle.of_machine.specs.declared.data.ToController.{ToController}
-use Rattle.of_ports.specs.declared.port.Port.{Port}
-use Rattle.of_datapath.specs.declared.control.AsyncConfig.{AsyncConfig}
 use Rattle.of_datapath.specs.Told.{each_told, effect_of, effects_of, frames_for, given_items, held_after, held_of, id_after, id_after_all, is_held, limit_of, packet_in_of}
+use Rattle.of_datapath.{specs.declared.control.AsyncConfig.AsyncConfig, proofs.Circle.all_is_id, proofs.Circle.held_under, proofs.Circle.others_under}
+use Rattle.of_machine.specs.{declared.data.Item.Item, declared.data.Item.TheVariants.Sent, declared.data.Item.TheVariants.PacketIn, declared.data.ToController.ToController}
+use Rattle.of_ports.specs.declared.port.Port.{Port}
 
 module _ (heard : AsyncConfig) where
   -- an item is told at its place

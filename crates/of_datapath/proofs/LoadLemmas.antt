@@ -1,20 +1,12 @@
 -- Tables that are loaded, flow by flow and table by table.
 use Rattle.std.proofs.Common.{◌≡◌, ℕ, zero, suc, ◌+◌, ◌<◌, ◌≤◌, false, List, [], ◌∷◌, ◌++◌, length, drop, get_or, set, None, refl, sym, ◌∙◌, ap, subst, append_assoc, add-one, drop-cons, arith}
 use Rattle.std.specs.Prelude.{map, max, nat_le, replicate, slice_index_or}
-use Rattle.std.proofs.lemmas.Bool.Decides.{nat_tests}
-use Rattle.std.specs.List.{AllByRecursion, list_any}
-use Rattle.std.proofs.lemmas.List.{append-nil, map-append, length-map}
-use Rattle.of_text.specs.declared.flow.FlowText.{FlowText}
-use Rattle.of_text.specs.Flows.{Flow as TextFlow}
-use Rattle.of_text.specs.Refusals.{has_same_match as is_same_text}
-use Rattle.of_text.specs.Groups.{TextGroup}
-use Rattle.of_text.specs.Kept.{IsEntry, AllStandBehind}
+use Rattle.std.{specs.List.AllByRecursion, specs.List.list_any, proofs.lemmas.Bool.Decides.nat_tests, proofs.lemmas.List.append-nil, proofs.lemmas.List.map-append, proofs.lemmas.List.length-map}
+use Rattle.of_text.specs.{declared.flow.FlowText.FlowText, Flows.Flow as TextFlow, Refusals.has_same_match as is_same_text, Groups.TextGroup, Kept.IsEntry, Kept.AllStandBehind}
 use Rattle.of_text.specs.Views.{view, view_flows}
 use Rattle.of_table.specs.Table.{FlowEntry, Table, empty_table, is_same, added}
 use Rattle.of_table.specs.Tables.{Tables, NumberedTables, no_tables, tables_of, table_at, with_table, added_to, tables_fault, left_in}
-use Rattle.of_table.specs.Entries.{table_of}
-use Rattle.of_table.specs.declared.selection.Cause.TheVariants.{Moment}
-use Rattle.of_table.proofs.PlaceLemmas.{find_none, filter_others}
+use Rattle.of_table.{specs.Entries.table_of, specs.declared.selection.Cause.TheVariants.Moment, proofs.PlaceLemmas.find_none, proofs.PlaceLemmas.filter_others}
 use Rattle.of_datapath.specs.Loading.{loaded_flow, loaded_entry, loaded_table, loaded_tables}
 
 -- ---- one more flow

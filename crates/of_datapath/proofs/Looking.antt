@@ -1,33 +1,19 @@
 -- The tables seen by places.
 use Rattle.std.proofs.Common.{Bor, ◌≡◌, ◌≢◌, ℕ, zero, suc, ◌+◌, ◌<◌, ◌≤◌, true, false, eqb, List, [], ◌∷◌, refl, length, Option, Some, None, sym, ap, ◌∙◌, arith, inl, inr}
-use Rattle.std.proofs.lemmas.List.{length-map}
-use Rattle.std.specs.Prelude.{slice_get, map}
-use Rattle.std.specs.Option.{option_map, option_copied}
-use Rattle.std.proofs.lemmas.Option.{slice_get-map}
+use Rattle.std.{specs.Prelude.slice_get, specs.Prelude.map, specs.Option.option_map, specs.Option.option_copied, proofs.lemmas.List.length-map, proofs.lemmas.Option.slice_get-map}
 use Rattle.std.proofs.lemmas.Bool.{cases_lt}
-use Rattle.of_table.proofs.TablesLemmas.{get_or_past}
-use Rattle.of_layers.specs.declared.field.Field.{Field}
-use Rattle.of_table.specs.declared.entry.Entry.{Entry}
-use Rattle.of_table.specs.declared.flow.Flow.{Flow}
-use Rattle.of_table.specs.Table.{FlowEntry, Table, winner_place, flow_at}
-use Rattle.of_table.specs.Tables.{NumberedTables, tables_of, table_at}
 use Rattle.of_table.specs.Entries.{Numbered, no_entries, entry_of, flows_of, rows_of, place_of}
-use Rattle.of_table.specs.Sound.{Key, entry_key, row_key}
+use Rattle.of_table.specs.{declared.entry.Entry.Entry, declared.flow.Flow.Flow, Table.FlowEntry, Table.Table, Table.winner_place, Table.flow_at}
+use Rattle.of_table.{specs.Tables.NumberedTables, specs.Tables.tables_of, specs.Tables.table_at, specs.Sound.Key, specs.Sound.entry_key, specs.Sound.row_key, proofs.TablesLemmas.get_or_past}
 use Rattle.of_table.proofs.WinnerLemmas.{winner_within}
-use Rattle.of_actions.specs.InstructionLists.{are_kept, are_for}
-use Rattle.of_groups.specs.declared.group.Group.{Group}
-use Rattle.of_groups.specs.Sound.{AreSound as AreSoundGroups}
-use Rattle.of_groups.proofs.ChainLaws.{chain_at_most}
-use Rattle.of_groups.proofs.WorldLemmas.{groups_serve}
-use Rattle.of_ports.specs.declared.port.Port.{Port}
+use Rattle.of_layers.specs.declared.field.Field.{Field}
+use Rattle.of_actions.specs.{InstructionLists.are_kept, InstructionLists.are_for, Rising.is_ascending}
+use Rattle.of_groups.{specs.declared.group.Group.Group, specs.Sound.AreSound as AreSoundGroups, proofs.ChainLaws.chain_at_most, proofs.WorldLemmas.groups_serve}
+use Rattle.of_ports.specs.{declared.port.Port.Port, Ports.is_live_at, Ports.number_of_port}
 use Rattle.of_machine.specs.Sound.{IsSound}
-use Rattle.of_ports.specs.Ports.{is_live_at, number_of_port}
-use Rattle.of_actions.specs.Rising.{is_ascending}
-use Rattle.of_datapath.specs.Datapath.{world_of, winner_in, flow_in}
-use Rattle.of_datapath.specs.Buffers.{none_held}
-use Rattle.of_datapath.specs.Numbers.{without_numbers, entries_at}
-use Rattle.of_datapath.proofs.GroupWorlds.{are_buckets}
 use Rattle.of_datapath.proofs.Worlds.{AreFit, table_is, flow_some, flow_none, flow_fit, both}
+use Rattle.of_datapath.specs.{Datapath.world_of, Datapath.winner_in, Datapath.flow_in, Buffers.none_held, Numbers.without_numbers, Numbers.entries_at}
+use Rattle.of_datapath.proofs.GroupWorlds.{are_buckets}
 
 module _ (n : NumberedTables) (groups : List Group) (ports : List Port) where
   -- the winner and the flow of a place, by the entries

@@ -1,7 +1,6 @@
 -- Numbers and their places.
 use Rattle.std.proofs.Common.{◌≡◌, ℕ, zero, suc, ◌<◌, Bool, true, false, eqb, List, [], ◌∷◌, length, get_or, refl, sym, ap, ◌∙◌, arith}
-use Rattle.std.specs.Prelude.{not, ◌||◌, ◌&&◌}
-use Rattle.std.specs.List.{list_any, position_or_len}
+use Rattle.std.specs.{Prelude.not, Prelude.◌||◌, Prelude.◌&&◌, List.list_any, List.position_or_len}
 use Rattle.std.proofs.lemmas.Bool.{eqb-true, eq-eqb, ne_eqb}
 use Rattle.of_wire.specs.Numbered.{is_used, is_distinct}
 

@@ -1,16 +1,9 @@
 -- The steps before a run that was interrupted.
 use Rattle.std.proofs.Common.{◌≡◌, ℕ, ◌+◌, ◌-◌, ◌≤◌, suc, zero, Bool, true, List, [], ◌∷◌, ◌++◌, refl, sym, ◌∙◌, ap, append_assoc, arith, zero-add, inl, inr}
-use Rattle.std.proofs.lemmas.List.{append-nil}
-use Rattle.std.proofs.lemmas.Bool.{cases_lt}
-use Rattle.of_machine.specs.declared.data.Packet.{Packet}
-use Rattle.of_machine.specs.declared.data.Step.{Step}
-use Rattle.of_machine.specs.TheWorld.{TheWorld}
-use Rattle.of_machine.specs.Sound.{IsSound}
-use Rattle.of_machine.specs.Rows.{Work, Lookup, Task, task}
-use Rattle.of_machine.specs.Weights.{IsFit, task_weight}
+use Rattle.std.proofs.{lemmas.List.append-nil, lemmas.Bool.cases_lt}
 use Rattle.of_machine.specs.Runs.{Machine, step, first_step, after, starting, run_of, IsPrefixOfRun}
-use Rattle.of_machine.proofs.Ending.{settled, run_is_after}
-use Rattle.of_machine.proofs.Whole.{run_ends, frame_fits}
+use Rattle.of_machine.specs.{declared.data.Packet.Packet, declared.data.Step.Step, TheWorld.TheWorld, Sound.IsSound, Rows.Work, Rows.Lookup, Rows.Task, Rows.task, Weights.IsFit, Weights.task_weight}
+use Rattle.of_machine.proofs.{Ending.settled, Ending.run_is_after, Whole.run_ends, Whole.frame_fits}
 use Rattle.of_datapath.specs.DryRun.{GainsPrefix}
 
 -- the lines of the one machine are those of the other and some more

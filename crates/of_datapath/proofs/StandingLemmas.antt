@@ -1,55 +1,29 @@
 -- Each group that an entry names exists, whatever happens.
 use Rattle.std.proofs.Common.{◌≡◌, ℕ, zero, suc, ◌<◌, ◌≤◌, eqb, ltb, Bool, true, false, not, cond, List, [], ◌∷◌, ◌++◌, length, get_or, Option, Some, None, refl, sym, ◌∙◌, ap, subst, arith}
 use Rattle.std.specs.Prelude.{◌||◌, map, filter, find, slice_index_or}
-use Rattle.std.specs.List.{AllByRecursion, list_all, list_any}
 use Rattle.std.proofs.lemmas.Bool.{and_parts, and_from, eqb-true, eq-eqb, le-leb}
-use Rattle.std.proofs.Math.Path.{fun_ext}
+use Rattle.std.{specs.List.AllByRecursion, specs.List.list_all, specs.List.list_any, proofs.Math.Path.fun_ext}
 use Rattle.of_wire.specs.Numbered.{without}
-use Rattle.of_actions.specs.declared.action.Action.{Action}
-use Rattle.of_actions.specs.declared.action.Action.TheVariants.{Group as ToGroup}
-use Rattle.of_actions.specs.declared.instruction.Instruction.{Instruction}
+use Rattle.of_actions.specs.{declared.action.Action.Action, declared.action.Action.TheVariants.Group as ToGroup, declared.instruction.Instruction.Instruction}
 use Rattle.of_actions.specs.declared.instruction.Instruction.TheVariants as instructions
-use Rattle.of_groups.specs.declared.group.Group.{Group}
-use Rattle.of_groups.specs.Buckets.{sends}
 use Rattle.of_groups.specs.Groups.{group_number, is_there, with_group, groups_left, at_group}
-use Rattle.of_groups.specs.Faults.{is_absent}
-use Rattle.of_groups.proofs.PutLemmas.{there_with}
-use Rattle.of_table.specs.declared.flow.Flow.{Flow}
-use Rattle.of_table.specs.declared.selection.Selector.{Selector}
-use Rattle.of_table.specs.declared.selection.Cause.{Cause}
-use Rattle.of_table.specs.declared.selection.Cause.TheVariants.{Group as OfGroup}
+use Rattle.of_groups.{specs.declared.group.Group.Group, specs.Buckets.sends, specs.Faults.is_absent, proofs.PutLemmas.there_with}
 use Rattle.of_table.specs.Table.{FlowEntry, Table, empty_table, is_same, with_flow, added, counted_at, looked, matched_at}
 use Rattle.of_table.specs.Selecting.{has_action, is_to, names_group, stays, modifies, modified_by}
 use Rattle.of_table.specs.Tables.{Tables, table_at, with_table, added_to, each_from, modified_table, modified_in, concerns, cause_at, left_table, left_in, is_in, looked_in, matched_in}
+use Rattle.of_table.specs.{declared.flow.Flow.Flow, declared.selection.Selector.Selector, declared.selection.Cause.Cause, declared.selection.Cause.TheVariants.Group as OfGroup}
 use Rattle.of_table.proofs.Soundness.{all-filter, all-set}
-use Rattle.of_machine.specs.declared.data.Count.{Count}
 use Rattle.of_machine.specs.declared.data.Count.TheVariants.{Lookup, Matched, TxDropped, Group as GroupUse, Bucket}
-use Rattle.of_ports.specs.declared.port.Port.{Port}
-use Rattle.of_text.specs.Flows.{Flow as TextFlow}
-use Rattle.of_text.specs.Groups.{TextGroup, groups_at}
-use Rattle.of_text.specs.Refusals.{names_absent}
-use Rattle.of_text.specs.Kept.{AllStandBehind}
-use Rattle.of_text.specs.Configs.{Configuration, IsConfig}
-use Rattle.of_text.proofs.EntryLemmas.{config_stands}
-use Rattle.of_text.proofs.FillLemmas.{sixteen}
-use Rattle.of_text.proofs.GroupLemmas.{config_groups}
-use Rattle.of_text.proofs.SoundLemmas.{absent_same}
-use Rattle.of_datapath.specs.declared.effect.Effect.{Effect}
-use Rattle.of_datapath.specs.declared.effect.Effect.TheVariants.{Answer, Sent, Closed}
-use Rattle.of_datapath.specs.declared.control.AsyncConfig.{AsyncConfig}
-use Rattle.of_headers.specs.declared.headers.FrameFault.{FrameFault}
-use Rattle.of_headers.specs.Faults.{frame_fault}
-use Rattle.of_machine.specs.declared.data.Packet.{Packet}
-use Rattle.of_machine.specs.Rows.{Work, Lookup as LookUp, entering}
-use Rattle.of_machine.specs.Runs.{Machine, run_of}
-use Rattle.of_ports.specs.declared.counters.PortCount.TheVariants.{Received}
-use Rattle.of_ports.specs.Ports.{may_receive, port_at}
-use Rattle.of_datapath.specs.Told.{effects_of, held_after}
-use Rattle.of_datapath.specs.Commands.{names_absent_group}
-use Rattle.of_datapath.specs.Loading.{loaded_entry, loaded_table, loaded_tables}
-use Rattle.of_datapath.specs.Buffers.{HeldFrames}
+use Rattle.of_machine.specs.{declared.data.Count.Count, declared.data.Packet.Packet, Rows.Work, Rows.Lookup as LookUp, Rows.entering, Runs.Machine, Runs.run_of}
+use Rattle.of_ports.specs.{declared.port.Port.Port, declared.counters.PortCount.TheVariants.Received, Ports.may_receive, Ports.port_at}
+use Rattle.of_text.specs.{Flows.Flow as TextFlow, Groups.TextGroup, Groups.groups_at, Refusals.names_absent, Kept.AllStandBehind, Configs.Configuration, Configs.IsConfig}
+use Rattle.of_text.proofs.{EntryLemmas.config_stands, FillLemmas.sixteen, GroupLemmas.config_groups, SoundLemmas.absent_same}
 use Rattle.of_datapath.specs.Datapath.{Forwarding, world_of, applied, arriving, count_port, framed, taken_in, through, tallied, all_tallied, sent, all_sent}
+use Rattle.of_datapath.specs.{declared.effect.Effect.Effect, declared.effect.Effect.TheVariants.Answer, declared.effect.Effect.TheVariants.Sent, declared.effect.Effect.TheVariants.Closed}
+use Rattle.of_datapath.specs.{declared.control.AsyncConfig.AsyncConfig, Told.effects_of, Told.held_after, Commands.names_absent_group}
+use Rattle.of_datapath.specs.{Loading.loaded_entry, Loading.loaded_table, Loading.loaded_tables, Buffers.HeldFrames}
 use Rattle.of_datapath.specs.Standing.{names_existing_groups, all_name_existing_groups, is_numbered, GroupsExist}
+use Rattle.of_headers.specs.{declared.headers.FrameFault.FrameFault, Faults.frame_fault}
 
 -- ---- tests
 

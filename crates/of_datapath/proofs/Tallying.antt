@@ -1,18 +1,11 @@
 -- What a run counted and emitted, one after the other.
-use Rattle.std.proofs.Common.{◌≡◌, ℕ, suc, ◌+◌, ◌<◌, List, [], ◌∷◌, length, get_or, drop, refl, sym, ◌∙◌, ap, add-one, drop-cons, Option}
-use Rattle.std.specs.List.{position_or_len}
-use Rattle.std.proofs.Common.{eqb}
-use Rattle.std.specs.Prelude.{slice_index_or}
-use Rattle.std.proofs.Math.ListN.{get_or-map}
-use Rattle.of_table.specs.Entries.{no_entries, entry_numbers}
-use Rattle.of_table.specs.Tables.{NumberedTables, all_numbers}
-use Rattle.of_machine.specs.declared.data.Count.{Count}
+use Rattle.std.proofs.Common.{◌≡◌, ℕ, suc, ◌+◌, ◌<◌, List, [], ◌∷◌, length, get_or, drop, refl, sym, ◌∙◌, ap, add-one, drop-cons, Option, eqb}
+use Rattle.std.{specs.List.position_or_len, specs.Prelude.slice_index_or, proofs.Math.ListN.get_or-map}
+use Rattle.of_table.specs.{Entries.no_entries, Entries.entry_numbers, Tables.NumberedTables, Tables.all_numbers}
 use Rattle.of_machine.specs.declared.data.Count.TheVariants.{Lookup, Matched, TxDropped, Group, Bucket}
-use Rattle.of_datapath.specs.declared.effect.Effect.{Effect}
-use Rattle.of_datapath.specs.Buffers.{Held}
-use Rattle.of_datapath.specs.declared.reception.Reception.{Reception}
-use Rattle.of_datapath.specs.Applying.{with_held, with_reception}
+use Rattle.of_machine.specs.declared.data.Count.{Count}
 use Rattle.of_datapath.specs.Datapath.{Forwarding, tallied, all_tallied, sent, all_sent}
+use Rattle.of_datapath.specs.{declared.effect.Effect.Effect, Buffers.Held, declared.reception.Reception.Reception, Applying.with_held, Applying.with_reception}
 use Rattle.of_datapath.specs.Numbers.{entries_at, placed_count, all_placed}
 
 -- a place depends on the numbers alone

@@ -1,12 +1,9 @@
 -- What is told of items, one after the other.
 use Rattle.std.proofs.Common.{◌≡◌, ℕ, true, false, List, [], ◌∷◌, ◌++◌, ap, ◌∙◌, sym, refl, flat_map, append_assoc, suc, arith}
-use Rattle.of_datapath.specs.Buffers.{Held, HeldFrames, hold, hold_all}
-use Rattle.of_machine.specs.declared.data.Item.{Item}
-use Rattle.of_machine.specs.Growth.{AllShort}
-use Rattle.of_ports.specs.declared.port.Port.{Port}
-use Rattle.of_datapath.specs.declared.control.AsyncConfig.{AsyncConfig}
-use Rattle.of_datapath.specs.declared.effect.Effect.{Effect}
 use Rattle.of_datapath.specs.Told.{each_told, effect_of, frames_for, given_items, id_after, is_given}
+use Rattle.of_datapath.specs.{Buffers.Held, Buffers.HeldFrames, Buffers.hold, Buffers.hold_all, declared.control.AsyncConfig.AsyncConfig, declared.effect.Effect.Effect}
+use Rattle.of_machine.specs.{declared.data.Item.Item, Growth.AllShort}
+use Rattle.of_ports.specs.declared.port.Port.{Port}
 
 -- what was told, with what will be told of the items that are left, is the whole
 pub record Telling (heard : AsyncConfig) (ports : List Port) (id : ℕ) (effects all_effects : List Effect) (frames all_frames : List Held) (left : List Item) : Type 0 where

@@ -1,37 +1,19 @@
 -- What the machine sees of the tables, by its numbers and by places.
 use Rattle.std.proofs.Common.{◌≡◌, ◌≢◌, ℕ, zero, suc, ◌<◌, ◌≤◌, Bool, true, false, ◌&&◌, eqb, ltb, List, [], ◌∷◌, length, Option, Some, None, refl, sym, ap, ◌∙◌, arith, inl, inr}
-use Rattle.std.proofs.lemmas.List.{length-map}
-use Rattle.std.specs.Prelude.{IsTrue, IfSome}
-use Rattle.std.specs.Option.{option_map}
-use Rattle.std.proofs.lemmas.Bool.{ltb-false, cases_lt}
+use Rattle.std.{specs.Prelude.IsTrue, specs.Prelude.IfSome, specs.Option.option_map, specs.List.list_all, proofs.lemmas.List.length-map, proofs.lemmas.Bool.ltb-false, proofs.lemmas.Bool.cases_lt}
 use Rattle.std.proofs.Math.ListN.{get_or-map}
-use Rattle.of_table.proofs.TablesLemmas.{get_or_past}
-use Rattle.of_layers.specs.declared.field.Field.{Field}
-use Rattle.of_wire.specs.Numbered.{is_distinct}
-use Rattle.of_wire.proofs.NumberedLemmas.{distinct-map}
-use Rattle.of_table.specs.declared.entry.Entry.{Entry}
-use Rattle.of_table.specs.Table.{FlowEntry, Table, winner_place, flow_at}
-use Rattle.of_table.specs.Tables.{NumberedTables, numbered_at, tables_of, table_at}
 use Rattle.of_table.specs.Entries.{Numbered, no_entries, entry_of, flows_of, entry_numbers, entry_number, place_of, is_entry_there, table_of}
-use Rattle.of_table.proofs.PlaceLemmas.{any-place}
-use Rattle.of_table.proofs.WinnerLemmas.{winner_within}
-use Rattle.of_groups.specs.declared.group.Group.{Group}
-use Rattle.of_groups.specs.Sound.{AreSound as AreSoundGroups}
-use Rattle.of_groups.proofs.ChainLaws.{chain_at_most}
-use Rattle.of_groups.proofs.WorldLemmas.{groups_serve}
-use Rattle.of_ports.specs.declared.port.Port.{Port}
-use Rattle.of_table.specs.declared.flow.Flow.{Flow}
-use Rattle.of_table.specs.Sound.{AreSoundEntries, are_instructions_fit, is_entry_fit}
-use Rattle.of_actions.specs.InstructionLists.{are_kept, are_for}
-use Rattle.std.specs.List.{list_all}
-use Rattle.of_machine.specs.Sound.{IsSound}
-use Rattle.of_machine.specs.Renumbering.{IsRenumbered}
-use Rattle.of_ports.specs.Ports.{is_live_at, number_of_port}
-use Rattle.of_actions.specs.Rising.{is_ascending}
-use Rattle.of_datapath.specs.Datapath.{world_of}
-use Rattle.of_datapath.specs.Buffers.{none_held}
+use Rattle.of_table.specs.{declared.entry.Entry.Entry, Table.FlowEntry, Table.Table, Table.winner_place, Table.flow_at, Tables.NumberedTables, Tables.numbered_at, Tables.tables_of, Tables.table_at}
+use Rattle.of_table.{specs.declared.flow.Flow.Flow, specs.Sound.AreSoundEntries, specs.Sound.are_instructions_fit, specs.Sound.is_entry_fit, proofs.TablesLemmas.get_or_past}
+use Rattle.of_table.proofs.{PlaceLemmas.any-place, WinnerLemmas.winner_within}
+use Rattle.of_layers.specs.declared.field.Field.{Field}
+use Rattle.of_wire.{specs.Numbered.is_distinct, proofs.NumberedLemmas.distinct-map}
+use Rattle.of_groups.{specs.declared.group.Group.Group, specs.Sound.AreSound as AreSoundGroups, proofs.ChainLaws.chain_at_most, proofs.WorldLemmas.groups_serve}
+use Rattle.of_ports.specs.{declared.port.Port.Port, Ports.is_live_at, Ports.number_of_port}
+use Rattle.of_actions.specs.{InstructionLists.are_kept, InstructionLists.are_for, Rising.is_ascending}
+use Rattle.of_machine.specs.{Sound.IsSound, Renumbering.IsRenumbered}
 use Rattle.of_datapath.specs.Numbers.{without_numbers, entries_at, entry_number_at, numbered_flow, numbered_world, place_in}
-use Rattle.of_datapath.proofs.GroupWorlds.{are_buckets}
+use Rattle.of_datapath.{specs.Datapath.world_of, specs.Buffers.none_held, proofs.GroupWorlds.are_buckets}
 use Rattle.of_datapath.proofs.PlaceNumbers.{itself, number_at_place, place_of_number}
 
 -- the number that a lookup returned is that of the winner's place

@@ -1,8 +1,6 @@
 -- What a run does besides what it counts: a reception is counted, a held frame is used, and frames are held.
 use Rattle.std.specs.Prelude.{ℕ, List, Option, Some, None}
-use Rattle.of_datapath.specs.Buffers.{Held, HeldFrames, hold_all, used}
-use Rattle.of_datapath.specs.declared.reception.Reception.{Reception}
-use Rattle.of_datapath.specs.Datapath.{Forwarding, count_port}
+use Rattle.of_datapath.specs.{Buffers.Held, Buffers.HeldFrames, Buffers.hold_all, Buffers.used, declared.reception.Reception.Reception, Datapath.Forwarding, Datapath.count_port}
 
 abbrev pub with_reception : Option Reception → Forwarding → Forwarding
 with_reception None f = f

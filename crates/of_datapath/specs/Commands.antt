@@ -1,37 +1,21 @@
 -- What a FLOW_MOD does to the flow tables (OpenFlow 1.3.5, 6.4 and 7.3.4.1), and the notices of removed entries (7.4.2).
 use Rattle.std.specs.Prelude.{ℕ, ◌%◌, ◌^◌, ◌==◌, ◌&&◌, bit_and, Bool, true, false, not, List, [], ◌∷◌, map, filter, Option, Some, None, is_none, if◌then◌else◌}
-use Rattle.std.specs.List.{list_any}
-use Rattle.std.specs.Option.{option_map}
+use Rattle.std.specs.{List.list_any, Option.option_map}
 use Rattle.of_wire.specs.declared.limits.TheConstants.{OFPFF_CHECK_OVERLAP, OFPFF_NO_BYT_COUNTS, OFPFF_NO_PKT_COUNTS, OFPFF_RESET_COUNTS, OFPFF_SEND_FLOW_REM, OFPTT_ALL, OFPP_ANY, OFP_NO_BUFFER}
-use Rattle.of_datapath.specs.Buffers.{Held, HeldFrames, held, used}
 use Rattle.of_wire.specs.declared.codes.TheConstants.{OFPBAC_BAD_OUT_GROUP, OFPBRC_BUFFER_UNKNOWN, OFPFMFC_OVERLAP, OFPFMFC_TABLE_FULL}
-use Rattle.of_wire.specs.Reasons.{flow_removed_number}
-use Rattle.of_wire.specs.declared.code.Code.{Code}
-use Rattle.of_messages.specs.declared.message.FlowMod.{FlowMod}
-use Rattle.of_messages.specs.declared.message.FlowModCommand.{FlowModCommand}
+use Rattle.of_wire.specs.{Reasons.flow_removed_number, declared.code.Code.Code}
+use Rattle.of_datapath.specs.{Buffers.Held, Buffers.HeldFrames, Buffers.held, Buffers.used, declared.control.AsyncConfig.AsyncConfig, Control.lets_pass, declared.effect.Effect.Effect}
+use Rattle.of_datapath.specs.declared.effect.Effect.TheVariants.{Answer}
+use Rattle.of_messages.specs.{declared.message.FlowMod.FlowMod, declared.message.FlowModCommand.FlowModCommand}
 use Rattle.of_messages.specs.declared.message.FlowModCommand.TheVariants.{Add, Modify, Delete}
-use Rattle.of_messages.specs.declared.message.FlowRemoved.{FlowRemoved}
-use Rattle.of_messages.specs.Messages.{is_delete}
-use Rattle.of_messages.specs.Written.{flow_removed_bytes}
-use Rattle.of_table.specs.declared.flow.Flow.{Flow}
-use Rattle.of_table.specs.declared.flow.FlowFlags.{FlowFlags}
-use Rattle.of_table.specs.declared.selection.Selector.{Selector}
-use Rattle.of_table.specs.declared.selection.Cause.TheVariants as cause
-use Rattle.of_table.specs.Table.{is_overlapped, is_full}
-use Rattle.of_table.specs.Selecting.{Notice, has_action, seconds_since, nanoseconds_since}
-use Rattle.of_actions.specs.declared.action.Action.{Action}
-use Rattle.of_actions.specs.declared.instruction.Instruction.{Instruction}
-use Rattle.of_groups.specs.declared.group.Group.{Group}
-use Rattle.of_groups.specs.Buckets.{sends}
-use Rattle.of_groups.specs.Faults.{is_absent}
-use Rattle.of_messages.specs.declared.message.PacketOut.{PacketOut}
-use Rattle.of_messages.specs.declared.message.PacketData.{PacketData}
+use Rattle.of_messages.specs.{declared.message.FlowRemoved.FlowRemoved, Messages.is_delete, Written.flow_removed_bytes, declared.message.PacketOut.PacketOut, declared.message.PacketData.PacketData}
 use Rattle.of_messages.specs.declared.message.PacketData.TheVariants.{Buffered, Frame}
 use Rattle.of_table.specs.Tables.{Tables, table_at, added_to, modified_in, left_in, notices_in}
-use Rattle.of_datapath.specs.declared.control.AsyncConfig.{AsyncConfig}
-use Rattle.of_datapath.specs.Control.{lets_pass}
-use Rattle.of_datapath.specs.declared.effect.Effect.{Effect}
-use Rattle.of_datapath.specs.declared.effect.Effect.TheVariants.{Answer}
+use Rattle.of_table.specs.{declared.flow.Flow.Flow, declared.flow.FlowFlags.FlowFlags, declared.selection.Selector.Selector, Table.is_overlapped, Table.is_full}
+use Rattle.of_table.specs.Selecting.{Notice, has_action, seconds_since, nanoseconds_since}
+use Rattle.of_table.specs.declared.selection.Cause.TheVariants as cause
+use Rattle.of_actions.specs.{declared.action.Action.Action, declared.instruction.Instruction.Instruction}
+use Rattle.of_groups.specs.{declared.group.Group.Group, Buckets.sends, Faults.is_absent}
 
 -- ---- the flow, and the entries that a command selects
 

@@ -1,12 +1,9 @@
 -- What a controller has set in a switch, and which asynchronous messages it receives (OpenFlow 1.3.5, 7.3.2, 7.3.9 and 7.3.10).
 use Rattle.std.specs.Prelude.{ℕ, ◌==◌, Bool, not, bit_and, None}
-use Rattle.of_messages.specs.declared.role.Role.{Role}
-use Rattle.of_messages.specs.declared.role.Role.TheVariants.{Equal, Master, Slave}
+use Rattle.of_messages.specs.{declared.role.Role.Role, declared.role.Role.TheVariants.Equal, declared.role.Role.TheVariants.Master, declared.role.Role.TheVariants.Slave}
 use Rattle.of_messages.specs.declared.async_masks.AsyncMasks.{AsyncMasks}
-use Rattle.of_session.specs.declared.session.Phase.{Phase}
-use Rattle.of_session.specs.declared.session.Phase.TheVariants.{Disconnected, Greeting, Open}
-use Rattle.of_datapath.specs.declared.control.Control.{Control}
-use Rattle.of_datapath.specs.declared.control.AsyncConfig.{AsyncConfig}
+use Rattle.of_session.specs.{declared.session.Phase.Phase, declared.session.Phase.TheVariants.Disconnected, declared.session.Phase.TheVariants.Greeting, declared.session.Phase.TheVariants.Open}
+use Rattle.of_datapath.specs.{declared.control.Control.Control, declared.control.AsyncConfig.AsyncConfig}
 
 -- at first a master or an equal controller receives the messages of all reasons, and a slave those of PORT_STATUS alone
 abbrev pub first_masks : AsyncMasks

@@ -1,30 +1,16 @@
 -- Frames through the flow tables and the groups, and out of the ports or, as a whole or in part, to the controller (OpenFlow 1.3.5, 5.1, 5.6, 7.2.1 and 7.4.1).
 use Rattle.std.specs.Prelude.{ℕ, List, [], ◌∷◌, length, Option, Some, None, if◌then◌else◌}
 use Rattle.of_layers.specs.declared.field.Field.{Field}
-use Rattle.of_headers.specs.declared.headers.FrameFault.{FrameFault}
-use Rattle.of_headers.specs.Faults.{frame_fault}
-use Rattle.of_table.specs.Table.{flow_at, winner_place}
+use Rattle.of_headers.specs.{declared.headers.FrameFault.FrameFault, Faults.frame_fault}
 use Rattle.of_table.specs.Tables.{Tables, no_tables, tables_of, table_at, looked_in, matched_in}
-use Rattle.of_table.specs.declared.flow.Flow.{Flow}
-use Rattle.of_groups.specs.declared.group.Group.{Group}
-use Rattle.of_groups.specs.Groups.{bucket_at, counted, bucket_counted}
-use Rattle.of_groups.specs.Chains.{chain}
-use Rattle.of_groups.specs.Liveness.{chosen}
-use Rattle.of_ports.specs.declared.port.Port.{Port}
-use Rattle.of_datapath.specs.Buffers.{Held, HeldFrames, none_held, used}
-use Rattle.of_machine.specs.declared.data.Count.{Count}
-use Rattle.of_machine.specs.declared.data.Count.TheVariants.{Lookup, Matched, TxDropped, Group as GroupUse, Bucket}
-use Rattle.of_machine.specs.declared.data.Packet.{Packet}
-use Rattle.of_machine.specs.TheWorld.{TheWorld}
-use Rattle.of_machine.specs.Rows.{Work, Lookup as LookUp, entering}
-use Rattle.of_machine.specs.Runs.{Machine, run_of}
-use Rattle.of_ports.specs.declared.counters.PortCount.{PortCount}
+use Rattle.of_table.specs.{Table.flow_at, Table.winner_place, declared.flow.Flow.Flow}
+use Rattle.of_groups.specs.{declared.group.Group.Group, Groups.bucket_at, Groups.counted, Groups.bucket_counted, Chains.chain, Liveness.chosen}
 use Rattle.of_ports.specs.declared.counters.PortCount.TheVariants.{Received, ReceiveDropped, ReceiveError, Sent as SentBytes, SendDropped}
-use Rattle.of_ports.specs.Ports.{all_counted, is_live_at, may_receive, port_at}
-use Rattle.of_datapath.specs.declared.control.AsyncConfig.{AsyncConfig}
-use Rattle.of_datapath.specs.declared.effect.Effect.{Effect}
-use Rattle.of_datapath.specs.declared.effect.Effect.TheVariants.{Answer, Sent, Closed}
-use Rattle.of_datapath.specs.Told.{effects_of, held_after}
+use Rattle.of_ports.specs.{declared.port.Port.Port, declared.counters.PortCount.PortCount, Ports.all_counted, Ports.is_live_at, Ports.may_receive, Ports.port_at}
+use Rattle.of_datapath.specs.{Buffers.Held, Buffers.HeldFrames, Buffers.none_held, Buffers.used, declared.control.AsyncConfig.AsyncConfig, declared.effect.Effect.Effect}
+use Rattle.of_datapath.specs.{declared.effect.Effect.TheVariants.Answer, declared.effect.Effect.TheVariants.Sent, declared.effect.Effect.TheVariants.Closed, Told.effects_of, Told.held_after}
+use Rattle.of_machine.specs.declared.data.Count.TheVariants.{Lookup, Matched, TxDropped, Group as GroupUse, Bucket}
+use Rattle.of_machine.specs.{declared.data.Count.Count, declared.data.Packet.Packet, TheWorld.TheWorld, Rows.Work, Rows.Lookup as LookUp, Rows.entering, Runs.Machine, Runs.run_of}
 
 -- the flow tables; the groups and the ports, each in ascending order of number; and the frames that are held for the controller
 pub record Forwarding : Type 0 where

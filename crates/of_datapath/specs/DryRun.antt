@@ -1,12 +1,8 @@
 -- What a frame that is received at a port would do next: the steps of its run, and nothing changes.
 use Rattle.std.specs.Prelude.{◌≡◌, ℕ, List, [], ◌∷◌, ◌++◌, Option, Some, None, if◌then◌else◌}
-use Rattle.of_headers.specs.declared.headers.FrameFault.{FrameFault}
-use Rattle.of_headers.specs.Faults.{frame_fault}
-use Rattle.of_machine.specs.declared.data.Step.{Step}
-use Rattle.of_ports.specs.declared.port.Port.{Port}
-use Rattle.of_ports.specs.Ports.{may_receive, port_at}
-use Rattle.of_machine.specs.Rows.{Lookup as LookUp, entering}
-use Rattle.of_machine.specs.Runs.{run_of}
+use Rattle.of_headers.specs.{declared.headers.FrameFault.FrameFault, Faults.frame_fault}
+use Rattle.of_machine.specs.{declared.data.Step.Step, Rows.Lookup as LookUp, Rows.entering, Runs.run_of}
+use Rattle.of_ports.specs.{declared.port.Port.Port, Ports.may_receive, Ports.port_at}
 use Rattle.of_datapath.specs.Datapath.{Forwarding, world_of}
 
 -- a received frame takes the steps of its run from the first table on (OpenFlow 1.3.5, 5.1): entries are named by their index by age, from 0

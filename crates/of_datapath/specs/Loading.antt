@@ -1,13 +1,9 @@
 -- CONFIGURATIONS: the groups and the flow tables without counters and times (OpenFlow 1.3.5, 5.1, 5.2 and 5.6).
 use Rattle.std.specs.Prelude.{ℕ, suc, List, [], ◌∷◌, map, None}
-use Rattle.of_text.specs.Flows.{Flow as TextFlow}
-use Rattle.of_text.specs.Groups.{group_text}
-use Rattle.of_text.specs.Configs.{Configuration}
-use Rattle.of_table.specs.declared.flow.Flow.{Flow}
+use Rattle.of_text.specs.{Flows.Flow as TextFlow, Groups.group_text, Configs.Configuration}
 use Rattle.of_table.specs.Table.{FlowEntry, Table, kept_flags, with_flow, flags_number}
-use Rattle.of_table.specs.Tables.{Tables}
-use Rattle.of_datapath.specs.Commands.{flags_of}
-use Rattle.of_datapath.specs.Datapath.{Forwarding}
+use Rattle.of_table.specs.{declared.flow.Flow.Flow, Tables.Tables}
+use Rattle.of_datapath.specs.{Commands.flags_of, Datapath.Forwarding}
 
 -- a flow of a text, whose flags are 1, 8 and 16 alone, as a FLOW_MOD would give it
 abbrev pub loaded_flow : TextFlow → Flow

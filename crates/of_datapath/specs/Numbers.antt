@@ -2,23 +2,12 @@
 use Rattle.std.specs.Prelude.{ℕ, List, map, slice_index, Option}
 use Rattle.std.specs.Option.{option_map}
 use Rattle.of_layers.specs.declared.field.Field.{Field}
-use Rattle.of_table.specs.declared.flow.Flow.{Flow}
-use Rattle.of_table.specs.declared.entry.Entry.{Entry}
-use Rattle.of_table.specs.Table.{winner_place, flow_at}
-use Rattle.of_table.specs.Entries.{flows_of, entry_numbers, place_of}
+use Rattle.of_table.specs.{declared.flow.Flow.Flow, declared.entry.Entry.Entry, Table.winner_place, Table.flow_at, Entries.flows_of, Entries.entry_numbers, Entries.place_of}
 use Rattle.of_table.specs.Tables.{NumberedTables, numbered_at, tables_of}
-use Rattle.of_groups.specs.declared.group.Group.{Group}
-use Rattle.of_groups.specs.Groups.{bucket_at}
-use Rattle.of_groups.specs.Chains.{chain}
-use Rattle.of_groups.specs.Liveness.{chosen}
-use Rattle.of_ports.specs.declared.port.Port.{Port}
-use Rattle.of_datapath.specs.Buffers.{HeldFrames}
-use Rattle.of_machine.specs.declared.data.Count.{Count}
-use Rattle.of_machine.specs.TheWorld.{TheWorld}
-use Rattle.of_machine.specs.Renumbering.{renumbered_count}
-use Rattle.of_ports.specs.Ports.{is_live_at}
-use Rattle.of_datapath.specs.Datapath.{Forwarding}
-use Rattle.of_datapath.specs.declared.datapath.Datapath.{Datapath}
+use Rattle.of_groups.specs.{declared.group.Group.Group, Groups.bucket_at, Chains.chain, Liveness.chosen}
+use Rattle.of_ports.specs.{declared.port.Port.Port, Ports.is_live_at}
+use Rattle.of_datapath.specs.{Buffers.HeldFrames, Datapath.Forwarding, declared.datapath.Datapath.Datapath}
+use Rattle.of_machine.specs.{declared.data.Count.Count, TheWorld.TheWorld, Renumbering.renumbered_count}
 
 -- without the numbers
 abbrev pub without_numbers : NumberedTables → List Group → List Port → HeldFrames → Forwarding

@@ -3,14 +3,9 @@ use Rattle.std.specs.Prelude.{ℕ, ◌==◌, Bool, ◌&&◌, List, [], ◌∷◌
 use Rattle.of_messages.specs.declared.port_mod.PortStatusReason.{PortStatusReason}
 use Rattle.of_messages.specs.declared.port_mod.PortStatusReason.TheVariants.{Add, Delete, Modify}
 use Rattle.of_messages.specs.Written.{port_status_bytes}
-use Rattle.of_ports.specs.declared.port.Port.{Port}
-use Rattle.of_ports.specs.Config.{config_bits}
-use Rattle.of_ports.specs.Ports.{state_bits}
+use Rattle.of_ports.specs.{declared.port.Port.Port, Config.config_bits, Ports.state_bits}
 use Rattle.of_statistics.specs.Ports.{described}
-use Rattle.of_datapath.specs.declared.control.AsyncConfig.{AsyncConfig}
-use Rattle.of_datapath.specs.Told.{asynchronous_effects}
-use Rattle.of_datapath.specs.declared.effect.Effect.{Effect}
-use Rattle.of_datapath.specs.declared.effect.Effect.TheVariants.{Answer}
+use Rattle.of_datapath.specs.{declared.control.AsyncConfig.AsyncConfig, Told.asynchronous_effects, declared.effect.Effect.Effect, declared.effect.Effect.TheVariants.Answer}
 
 -- an asynchronous message has the transaction id 0
 abbrev pub status : PortStatusReason → Port → Effect

@@ -1,7 +1,6 @@
 -- What a ROLE_REQUEST does (OpenFlow 1.3.5, 6.3.4 and 7.3.9).
 use Rattle.std.specs.Prelude.{ℕ, ◌+◌, ◌-◌, ◌%◌, ◌^◌, nat_le, Bool, false, List, [], ◌∷◌, Option, Some, None}
-use Rattle.of_wire.specs.declared.codes.TheConstants.{OFPRRFC_STALE}
-use Rattle.of_wire.specs.declared.code.Code.{Code}
+use Rattle.of_wire.specs.{declared.codes.TheConstants.OFPRRFC_STALE, declared.code.Code.Code}
 use Rattle.of_messages.specs.declared.role.Role.TheVariants as role
 use Rattle.of_messages.specs.declared.role.RoleRequest.{RoleRequest}
 use Rattle.of_messages.specs.declared.role.RoleRequest.TheVariants.{NoChange, Equal, Master, Slave}

@@ -4,8 +4,7 @@ use Rattle.std.specs.List.{list_all}
 use Rattle.of_wire.specs.declared.limits.TheConstants.{OFPG_MAX}
 use Rattle.of_groups.specs.declared.group.Group.{Group}
 use Rattle.of_table.specs.Table.{FlowEntry, Table}
-use Rattle.of_datapath.specs.Commands.{names_absent_group}
-use Rattle.of_datapath.specs.Datapath.{Forwarding}
+use Rattle.of_datapath.specs.{Commands.names_absent_group, Datapath.Forwarding}
 
 -- each group to which an action of the entry sends packets exists
 abbrev pub names_existing_groups : List Group → FlowEntry → Bool

@@ -1,20 +1,14 @@
 -- Why a MULTIPART_REQUEST is refused and what it is answered, by the state of the switch (OpenFlow 1.3.5, 7.3.5).
 use Rattle.std.specs.Prelude.{ℕ, Bool, false, not, List, [], ◌∷◌, Some, None}
-use Rattle.of_wire.specs.declared.limits.TheConstants.{OFPTT_ALL, OFPP_ANY, OFPG_ANY}
-use Rattle.of_wire.specs.declared.codes.TheConstants.{OFPBRC_BAD_PORT}
+use Rattle.of_wire.specs.{declared.limits.TheConstants.OFPTT_ALL, declared.limits.TheConstants.OFPP_ANY, declared.limits.TheConstants.OFPG_ANY, declared.codes.TheConstants.OFPBRC_BAD_PORT}
 use Rattle.of_wire.specs.declared.code.Code.{Code}
-use Rattle.of_messages.specs.declared.multipart.FlowStatsRequest.{FlowStatsRequest}
-use Rattle.of_messages.specs.declared.multipart.MultipartRequest.{MultipartRequest}
 use Rattle.of_messages.specs.declared.multipart.MultipartRequest.TheVariants.{Description, Flow, Aggregate, Table, PortStats, Group, GroupDescription, GroupFeatures, PortDescription}
+use Rattle.of_messages.specs.{declared.multipart.FlowStatsRequest.FlowStatsRequest, declared.multipart.MultipartRequest.MultipartRequest}
 use Rattle.of_table.specs.declared.selection.Selector.{Selector}
-use Rattle.of_ports.specs.declared.port.Port.{Port}
-use Rattle.of_ports.specs.Ports.{has_port}
-use Rattle.of_statistics.specs.Descriptions.{description_bytes}
-use Rattle.of_statistics.specs.Flows.{aggregate_bytes, flow_bytes, table_bytes}
-use Rattle.of_statistics.specs.Groups.{group_bytes, group_description_bytes, group_features_bytes}
-use Rattle.of_statistics.specs.Ports.{port_description_bytes, port_stats_bytes}
-use Rattle.of_datapath.specs.Commands.{unless_any}
-use Rattle.of_datapath.specs.Datapath.{Forwarding}
+use Rattle.of_ports.specs.{declared.port.Port.Port, Ports.has_port}
+use Rattle.of_statistics.specs.{Descriptions.description_bytes, Flows.aggregate_bytes, Flows.flow_bytes, Flows.table_bytes}
+use Rattle.of_statistics.specs.{Groups.group_bytes, Groups.group_description_bytes, Groups.group_features_bytes, Ports.port_description_bytes, Ports.port_stats_bytes}
+use Rattle.of_datapath.specs.{Commands.unless_any, Datapath.Forwarding}
 
 -- the entries that are asked for: those that a DELETE with the same values would select
 abbrev pub asked_selector : FlowStatsRequest → Selector

@@ -1,22 +1,15 @@
 -- What a switch sends of the items that a packet's run gave: frames out of ports, and PACKET_INs to the controller (OpenFlow 1.3.5, 7.4.1), whose frames are held where only their first bytes are sent.
 use Rattle.std.specs.Prelude.{ℕ, ◌^◌, ◌==◌, nat_lt, Bool, true, false, not, ◌&&◌, List, [], ◌∷◌, length, take, filter, flat_map, unwrap_or, is_none, if◌then◌else◌}
 use Rattle.std.specs.Option.{option_map_or}
-use Rattle.of_wire.specs.declared.limits.TheConstants.{OFP_NO_BUFFER}
-use Rattle.of_wire.specs.Reasons.{packet_in_number}
+use Rattle.of_wire.specs.{declared.limits.TheConstants.OFP_NO_BUFFER, Reasons.packet_in_number, declared.reasons.PacketInReason.PacketInReason}
 use Rattle.of_headers.specs.Faults.{frame_fault}
-use Rattle.of_datapath.specs.Buffers.{Held, HeldFrames, id_following, hold_all}
-use Rattle.of_messages.specs.Written.{packet_in_bytes}
-use Rattle.of_wire.specs.declared.reasons.PacketInReason.{PacketInReason}
-use Rattle.of_wire.specs.declared.reasons.PacketInReason.TheVariants as reason
-use Rattle.of_machine.specs.declared.data.ToController.{ToController}
-use Rattle.of_machine.specs.declared.data.Item.{Item}
-use Rattle.of_machine.specs.declared.data.Item.TheVariants as item
-use Rattle.of_ports.specs.declared.port.Port.{Port}
-use Rattle.of_ports.specs.Ports.{port_at}
-use Rattle.of_datapath.specs.declared.control.AsyncConfig.{AsyncConfig}
-use Rattle.of_datapath.specs.Control.{lets_pass}
-use Rattle.of_datapath.specs.declared.effect.Effect.{Effect}
+use Rattle.of_datapath.specs.{Buffers.Held, Buffers.HeldFrames, Buffers.id_following, Buffers.hold_all, declared.control.AsyncConfig.AsyncConfig, Control.lets_pass, declared.effect.Effect.Effect}
 use Rattle.of_datapath.specs.declared.effect.Effect.TheVariants.{Answer, Sent}
+use Rattle.of_messages.specs.Written.{packet_in_bytes}
+use Rattle.of_wire.specs.declared.reasons.PacketInReason.TheVariants as reason
+use Rattle.of_machine.specs.{declared.data.ToController.ToController, declared.data.Item.Item}
+use Rattle.of_machine.specs.declared.data.Item.TheVariants as item
+use Rattle.of_ports.specs.{declared.port.Port.Port, Ports.port_at}
 
 -- ASYNCHRONOUS MESSAGES are filtered by reason: each is a bit of the mask of its message (7.3.10)
 

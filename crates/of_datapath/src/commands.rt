@@ -1,10 +1,8 @@
 //! FLOW_MOD commands in terms of the flow tables (OpenFlow 1.3.5, 6.4), and notices of removed entries (7.4.2).
 
-ghost use Rattle.std.specs.Prelude.{◌≡◌, OnOk, IfOk};
-ghost use Rattle.of_table.specs.Selecting.{notice_of, notices_of};
+ghost use Rattle.std.specs.{Prelude.◌≡◌, Prelude.OnOk, Prelude.IfOk, List.list_any};
+ghost use Rattle.of_table.specs.Selecting.{notice_of, notices_of, has_action};
 ghost use Rattle.of_datapath.specs.Commands.{flags_of, flow_of, has_flag as with_flag, is_strict as strict, notice_effect, notice_effects, out_of, removed_of, unless_any as none_for, selector_of, is_to_absent_group as to_absent_group, names_absent_group as naming_absent_group};
-ghost use Rattle.std.specs.List.{list_any};
-ghost use Rattle.of_table.specs.Selecting.{has_action};
 
 use crate::control::{AsyncConfig, lets_through};
 use crate::effect::{Effect, Effects};

@@ -1,17 +1,8 @@
 //! Configurations from the tables and groups of a switch.
-ghost use Rattle.std.specs.Prelude.{◌≡◌, IfOk, map};
-ghost use Rattle.std.specs.List.{AllByRecursion};
-ghost use Rattle.of_table.specs.Entries.{flows_of};
-ghost use Rattle.of_table.specs.Tables.{tables_of};
-ghost use Rattle.of_text.specs.Configs.{view_tables};
-ghost use Rattle.of_text.specs.Groups.{group_text, rows_of_groups};
-ghost use Rattle.of_text.specs.Kept.{IsKeptFlow};
-ghost use Rattle.of_text.specs.Rows.{Fits};
-ghost use Rattle.of_text.specs.Views.{view, view_flows, view_groups};
-ghost use Rattle.of_datapath.specs.Loading.{configuration_of, entry_text, flow_kept, texts_from};
-ghost use Rattle.of_datapath.specs.Configuring.{AreKeptFrom};
-ghost use Rattle.of_datapath.specs.Numbers.{forwarding_of};
-ghost use Rattle.of_datapath.specs.Standing.{GroupsExist};
+ghost use Rattle.std.specs.{Prelude.◌≡◌, Prelude.IfOk, Prelude.map, List.AllByRecursion};
+ghost use Rattle.of_table.specs.{Entries.flows_of, Tables.tables_of};
+ghost use Rattle.of_text.specs.{Configs.view_tables, Groups.group_text, Groups.rows_of_groups, Kept.IsKeptFlow, Rows.Fits, Views.view, Views.view_flows, Views.view_groups};
+ghost use Rattle.of_datapath.specs.{Loading.configuration_of, Loading.entry_text, Loading.flow_kept, Loading.texts_from, Configuring.AreKeptFrom, Numbers.forwarding_of, Standing.GroupsExist};
 
 use crate::datapath::Datapath;
 use of_classifier::Lookup;

@@ -1,7 +1,7 @@
 //! What a controller has set, and which asynchronous messages it receives.
 ghost use Rattle.std.specs.Prelude.{◌≡◌};
-ghost use Rattle.of_datapath.specs.Roles.{has_stale_generation as is_from_stale, is_stale as is_stale_after, with_role};
 ghost use Rattle.of_datapath.specs.Control.{first_masks, heard_of, heard_while, lets_pass, new_control, released};
+ghost use Rattle.of_datapath.specs.Roles.{has_stale_generation as is_from_stale, is_stale as is_stale_after, with_role};
 
 use of_messages::{AsyncMasks, Role, RoleMasks, RoleRequest, SwitchConfig};
 use of_session::Phase;

@@ -1,18 +1,12 @@
 //! What forwards frames: the flow tables, the groups and the ports, and the frames that are held.
-ghost use Rattle.std.specs.Prelude.{◌≡◌, ◌≤◌, IfOk, OnErr, length};
-ghost use Rattle.of_table.specs.Tables.{all_numbers, tables_of, looked_in, matched_in};
+ghost use Rattle.std.specs.Prelude.{◌≡◌, ◌≤◌, IfOk, OnErr, length, IsTrue, true, [], ◌∷◌, flat_map};
+ghost use Rattle.of_table.specs.Tables.{all_numbers, tables_of, looked_in, matched_in, left_in, notices_in};
 ghost use Rattle.of_groups.specs.Sound.{AreSound};
-ghost use Rattle.std.specs.Prelude.{IsTrue, true, [], ◌∷◌};
 ghost use Rattle.of_actions.specs.Supported.{are_supported};
-ghost use Rattle.of_machine.specs.Growth.{AllShort};
-ghost use Rattle.of_machine.specs.Rows.{Lookup as LookUp, acts, entering};
-ghost use Rattle.of_table.specs.Tables.{left_in, notices_in};
-ghost use Rattle.of_datapath.specs.Commands.{notice_effects};
-ghost use Rattle.std.specs.Prelude.{flat_map};
-ghost use Rattle.of_datapath.specs.Told.{each_told, frames_for, given_items};
-ghost use Rattle.of_datapath.specs.Applying.{with_held, with_reception, without_used};
+ghost use Rattle.of_machine.specs.{Growth.AllShort, Rows.Lookup as LookUp, Rows.acts, Rows.entering};
 ghost use Rattle.of_datapath.specs.Datapath.{all_sent, all_tallied, forwards, framed, idle, received, sent, tallied, through, without_held};
 ghost use Rattle.of_datapath.specs.Numbers.{Contents, all_placed, contents_of, forwarding_of, numbered_world, place_in, placed_count};
+ghost use Rattle.of_datapath.specs.{Commands.notice_effects, Told.each_told, Told.frames_for, Told.given_items, Applying.with_held, Applying.with_reception, Applying.without_used};
 
 use crate::commands::notices;
 use crate::control::AsyncConfig;

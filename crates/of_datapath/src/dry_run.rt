@@ -2,18 +2,10 @@
 ghost use Rattle.std.specs.Prelude.{◌≡◌, ◌≢◌, ◌<◌, ◌≤◌, ◌+◌, ◌++◌, ◌∷◌, [], Some, None, true, IfOk, OnOk, OnErr, length, slice_get};
 ghost use Rattle.std.specs.Option.{option_copied, option_map};
 ghost use Rattle.of_headers.specs.FieldMap.{value};
-ghost use Rattle.of_table.specs.Entries.{entry_of, flows_of};
-ghost use Rattle.of_table.specs.Tables.{table_at, tables_of};
-ghost use Rattle.of_table.specs.Sound.{AreRowsOf};
-ghost use Rattle.of_datapath.specs.Numbers.{Contents, contents_of, forwarding_of};
-ghost use Rattle.of_datapath.specs.Datapath.{framed, winner_in, world_of};
-ghost use Rattle.of_datapath.specs.DryRun.{GainsPrefix, received_steps, steps_in};
-ghost use Rattle.of_machine.specs.Growth.{AllShort};
-ghost use Rattle.of_machine.specs.Sound.{IsSound};
-ghost use Rattle.of_machine.specs.Rows.{Lookup as LookUp, entering};
-ghost use Rattle.of_machine.specs.Weights.{frame_step_bound};
-ghost use Rattle.of_machine.specs.Runs.{run_of};
-ghost use Rattle.of_datapath.specs.Told.{effects_of};
+ghost use Rattle.of_table.specs.{Entries.entry_of, Entries.flows_of, Tables.table_at, Tables.tables_of, Sound.AreRowsOf};
+ghost use Rattle.of_datapath.specs.{Numbers.Contents, Numbers.contents_of, Numbers.forwarding_of, Datapath.framed, Datapath.winner_in, Datapath.world_of};
+ghost use Rattle.of_datapath.specs.{DryRun.GainsPrefix, DryRun.received_steps, DryRun.steps_in, Told.effects_of};
+ghost use Rattle.of_machine.specs.{Growth.AllShort, Sound.IsSound, Rows.Lookup as LookUp, Rows.entering, Weights.frame_step_bound, Runs.run_of};
 
 use crate::control::AsyncConfig;
 use crate::datapath::{Datapath, known_groups};

@@ -3,13 +3,10 @@ ghost use Rattle.std.specs.Prelude.{◌≡◌, ◌<◌, [], List, false, IsTrue,
 ghost use Rattle.std.specs.List.{AllByRecursion, list_any};
 ghost use Rattle.of_oxm.specs.NormalForm.{IsMatch};
 ghost use Rattle.of_actions.specs.InstructionLists.{are_kept};
-ghost use Rattle.of_table.specs.Table.{empty_table, is_same, kept_flags};
 ghost use Rattle.of_table.specs.Tables.{added_to, no_tables, table_at, tables_of, with_table};
-ghost use Rattle.of_text.specs.Groups.{TextGroup};
-ghost use Rattle.of_text.specs.Kept.{AllStandBehind, IsEntry};
-ghost use Rattle.of_text.specs.Views.{view, view_flows};
-ghost use Rattle.of_datapath.specs.Commands.{flags_of};
-ghost use Rattle.of_datapath.specs.Loading.{loaded_flow, loaded_table, loaded_tables};
+ghost use Rattle.of_table.specs.Table.{empty_table, is_same, kept_flags};
+ghost use Rattle.of_text.specs.{Groups.TextGroup, Kept.AllStandBehind, Kept.IsEntry, Views.view, Views.view_flows};
+ghost use Rattle.of_datapath.specs.{Commands.flags_of, Loading.loaded_flow, Loading.loaded_table, Loading.loaded_tables};
 
 use crate::commands::has_flag;
 use of_classifier::Lookup;

@@ -1,8 +1,6 @@
 //! What a MULTIPART_REQUEST is answered (OpenFlow 1.3.5, 7.3.5).
 ghost use Rattle.std.specs.Prelude.{◌≡◌, ◌∷◌, [], IfOk, map};
-ghost use Rattle.of_datapath.specs.Statistics.{asked_selector, asks_absent_port as asks_for_absent};
-ghost use Rattle.of_datapath.specs.Commands.{unless_any as none_for};
-ghost use Rattle.of_datapath.specs.declared.effect.Effect.TheVariants.{Answer};
+ghost use Rattle.of_datapath.specs.{Statistics.asked_selector, Statistics.asks_absent_port as asks_for_absent, Commands.unless_any as none_for, declared.effect.Effect.TheVariants.Answer};
 
 use crate::effect::{Effect, Effects};
 use of_messages::{FlowStatsRequest, MessageBytes, MultipartRequest};

@@ -2,9 +2,9 @@
 ghost use Rattle.std.specs.Prelude.{◌≡◌, ◌≤◌, ◌++◌, ◌∷◌, [], IfOk, OnOk, length, flat_map, false};
 ghost use Rattle.std.specs.Option.{option_map_or};
 ghost use Rattle.of_ports.specs.Ports.{port_at};
+ghost use Rattle.of_datapath.specs.Told.{each_told, effect_of, frames_for, given_items, id_after, is_given as is_given_to, is_held as is_to_be_held, is_suppressed as is_silenced_by, limit_of as limit_for, packet_in_of};
 ghost use Rattle.of_datapath.specs.Buffers.{last_id};
 ghost use Rattle.of_machine.specs.Growth.{AllShort, frame_of};
-ghost use Rattle.of_datapath.specs.Told.{each_told, effect_of, frames_for, given_items, id_after, is_given as is_given_to, is_held as is_to_be_held, is_suppressed as is_silenced_by, limit_of as limit_for, packet_in_of};
 
 use crate::control::{AsyncConfig, lets_through};
 use crate::effect::{Effect, Effects};

@@ -1,15 +1,9 @@
 -- From which table on two switches do the same.
 use Rattle.std.proofs.Common.{◌≡◌, ℕ, zero, suc, ◌+◌, ◌≤◌, ◌⊎◌, inl, inr, refl, ap, arith}
 use Rattle.of_datapath.specs.Datapath.{Forwarding, world_of}
-use Rattle.of_alike.specs.Agreeing.{AgreeFrom}
-use Rattle.of_diff.specs.Changing.{entries_in}
-use Rattle.of_alike.specs.SameGroups.{SameGroups}
-use Rattle.of_alike.specs.SamePorts.{SamePorts}
-use Rattle.of_alike.specs.SameTables.{SameTables}
-use Rattle.of_alike.proofs.EmissionLemmas.{same_emission}
-use Rattle.of_alike.proofs.HitLemmas.{same_winner}
-use Rattle.of_diff.proofs.JoiningLemmas.{same_flow_at}
+use Rattle.of_alike.{specs.Agreeing.AgreeFrom, specs.SameGroups.SameGroups, specs.SamePorts.SamePorts, specs.SameTables.SameTables, proofs.EmissionLemmas.same_emission, proofs.HitLemmas.same_winner}
 use Rattle.of_alike.proofs.SameGroupLemmas.{same_bucket, same_chosen}
+use Rattle.of_diff.{specs.Changing.entries_in, proofs.JoiningLemmas.same_flow_at}
 
 abbrev pub TablesSayTheSame : ℕ → Forwarding → Forwarding → Type 0
 TablesSayTheSame n f g = (t : ℕ) → n ≤ t → SameTables (entries_in f t) (entries_in g t)

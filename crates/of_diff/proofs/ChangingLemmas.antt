@@ -1,57 +1,32 @@
 -- Frames that match no changed entry of a table, if both switches do the same after it.
 use Rattle.std.proofs.Common.{◌≡◌, ℕ, zero, suc, ◌+◌, ◌-◌, ◌<◌, ◌≤◌, ◌⊎◌, inl, inr, Bool, true, false, List, [], ◌∷◌, ◌++◌, length, drop, map, Option, Some, None, Result, Ok, Err, IfOk, IfSome, append_assoc, refl, sym, ap, subst, ◌∙◌, arith}
-use Rattle.std.specs.Prelude.{slice_get, slice_index_or}
-use Rattle.std.specs.Option.{option_map}
-use Rattle.std.specs.Global.{Vec}
-use Rattle.std.specs.List.{Contains, list_all}
-use Rattle.std.proofs.lemmas.Bool.Decides.{nat_tests}
-use Rattle.std.proofs.lemmas.List.{append-nil, length_push}
 use Rattle.std.proofs.lemmas.List.Elements.{Contains-append_cases, Contains-append_left, Contains-append_right, Contains-push, Contains-push_cases}
-use Rattle.std.proofs.lemmas.Option.{slice_get_within}
+use Rattle.std.{specs.Prelude.slice_get, specs.Prelude.slice_index_or, specs.Option.option_map, specs.Global.Vec, specs.List.Contains, specs.List.list_all, proofs.lemmas.Bool.Decides.nat_tests}
+use Rattle.std.proofs.{lemmas.List.append-nil, lemmas.List.length_push, lemmas.Option.slice_get_within}
 use Rattle.of_layers.specs.declared.field.Field.{Field}
-use Rattle.of_oxm.specs.declared.match_field.MatchField.{MatchField}
-use Rattle.of_oxm.specs.Relations.{matches_map}
+use Rattle.of_oxm.specs.{declared.match_field.MatchField.MatchField, Relations.matches_map}
 use Rattle.of_rewrite.specs.Frames.{IsFrame}
-use Rattle.of_actions.specs.declared.action.Action.{Action}
-use Rattle.of_actions.specs.declared.instruction.Instruction.{Instruction}
-use Rattle.of_actions.specs.InstructionLists.{are_kept, is_served_body}
+use Rattle.of_actions.specs.{declared.action.Action.Action, declared.instruction.Instruction.Instruction, InstructionLists.are_kept, InstructionLists.is_served_body}
 use Rattle.of_table.specs.Table.{FlowEntry, winner_place}
-use Rattle.of_machine.specs.declared.data.Packet.{Packet}
-use Rattle.of_machine.specs.TheWorld.{TheWorld}
 use Rattle.of_machine.specs.Rows.{Lookup, Row, Task, Work, entering, entry_row, lookup_row, row, task}
 use Rattle.of_machine.specs.Runs.{Machine, after, first_step, starting, step}
-use Rattle.of_machine.specs.Sound.{IsSound}
+use Rattle.of_machine.specs.{declared.data.Packet.Packet, TheWorld.TheWorld, Sound.IsSound}
 use Rattle.of_datapath.specs.Datapath.{Forwarding, world_of}
-use Rattle.of_regions.specs.declared.region.Region.{Region}
-use Rattle.of_regions.specs.Searching.{InSome}
-use Rattle.of_symbolic.specs.Branches.{rewritten_fields}
-use Rattle.of_symbolic.specs.InnerTags.{description_of}
-use Rattle.of_symbolic.specs.Parts.{NoneOfMatches}
-use Rattle.of_symbolic_run.specs.declared.frame_set.FrameSet.{FrameSet}
-use Rattle.of_symbolic_run.specs.declared.state.SymbolicTask.{SymbolicTask}
-use Rattle.of_symbolic_run.specs.Received.{IsReceivedAt, items_at}
-use Rattle.of_symbolic_run.proofs.ReceivedLemmas.{fewer_received}
-use Rattle.of_symbolic_run.specs.FrameSets.{AreFramesMatching, AreFramesWithout, InFrames}
-use Rattle.of_symbolic_run.specs.declared.advance.Advance.TheVariants as advances
+use Rattle.of_regions.specs.{declared.region.Region.Region, Searching.InSome}
+use Rattle.of_symbolic.specs.{Branches.rewritten_fields, InnerTags.description_of, Parts.NoneOfMatches}
 use Rattle.of_symbolic_run.specs.States.{answer_to_tasks, items_for, packet_for, task_for, work_for}
-use Rattle.of_symbolic_run.proofs.CopyLemmas.{same_answer}
+use Rattle.of_symbolic_run.specs.{declared.frame_set.FrameSet.FrameSet, declared.state.SymbolicTask.SymbolicTask, Received.IsReceivedAt, Received.items_at}
+use Rattle.of_symbolic_run.{specs.FrameSets.AreFramesMatching, specs.FrameSets.AreFramesWithout, specs.FrameSets.InFrames, proofs.ReceivedLemmas.fewer_received, proofs.CopyLemmas.same_answer}
 use Rattle.of_symbolic_run.proofs.FirstLemmas.{is_lookup}
-use Rattle.of_diff.specs.declared.agreement.Agreement.{Agreement}
-use Rattle.of_alike.specs.Agreeing.{AllFrom, AreNoTable, TaskFrom}
-use Rattle.of_alike.specs.declared.alike.Compared.{Compared}
-use Rattle.of_diff.specs.declared.pair.Pair.{Pair}
+use Rattle.of_symbolic_run.specs.declared.advance.Advance.TheVariants as advances
 use Rattle.of_diff.specs.Changing.{AddsPairs, AddsSet, AreAtTableBefore, AreMarkedAskedIn, AreMatchedSets, ArePairsOf, FirstSetIsOfPorts, IsAgreement, IsAskedIn, MatchedBySome, entries_in}
-use Rattle.of_diff.specs.Differences.{InSets, IsTreatedAlike}
-use Rattle.of_alike.specs.Emitting.{LeaveAlike}
-use Rattle.of_diff.specs.NextPairs.{AreNextPairs, ArePairsApart, IsNextPair, pairs_of_parts}
-use Rattle.of_diff.specs.Pairs.{ArePairs, AreStatesOfRuns, InPairs, IsByFirst}
-use Rattle.of_alike.specs.SamePorts.{SamePorts}
-use Rattle.of_alike.specs.SameTables.{AreChanged, AreSameHits, EntrySays, IsUnmarkedHit, SayTheSame}
-use Rattle.of_alike.proofs.Agreeing.{all_both, works_from}
-use Rattle.of_alike.proofs.AgreeingRuns.{all_from, rests_agree}
-use Rattle.of_diff.proofs.CutLemmas.{rests_alike}
-use Rattle.of_alike.proofs.EmissionLemmas.{receives_at}
 use Rattle.of_diff.proofs.PairLemmas.{apart_by_first, copy_at, each_by_first, has_pair, of_case, same_tasks}
+use Rattle.of_diff.specs.{declared.agreement.Agreement.Agreement, declared.pair.Pair.Pair, Differences.InSets, Differences.IsTreatedAlike}
+use Rattle.of_diff.specs.{NextPairs.AreNextPairs, NextPairs.ArePairsApart, NextPairs.IsNextPair, NextPairs.pairs_of_parts, Pairs.ArePairs, Pairs.AreStatesOfRuns, Pairs.InPairs, Pairs.IsByFirst}
+use Rattle.of_diff.proofs.CutLemmas.{rests_alike}
+use Rattle.of_alike.specs.SameTables.{AreChanged, AreSameHits, EntrySays, IsUnmarkedHit, SayTheSame}
+use Rattle.of_alike.specs.{Agreeing.AllFrom, Agreeing.AreNoTable, Agreeing.TaskFrom, declared.alike.Compared.Compared, Emitting.LeaveAlike, SamePorts.SamePorts}
+use Rattle.of_alike.proofs.{Agreeing.all_both, Agreeing.works_from, AgreeingRuns.all_from, AgreeingRuns.rests_agree, EmissionLemmas.receives_at}
 use Rattle.of_alike.proofs.HitLemmas.{IsWinner, unchanged_hits, winner_is}
 
 -- ---- some list of conditions matches, or none does

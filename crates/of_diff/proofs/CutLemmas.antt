@@ -1,24 +1,11 @@
 -- Runs that go on alike.
 use Rattle.std.proofs.Common.{ℕ, List, ◌++◌, refl, sym, ap, subst, ◌∙◌, map}
-use Rattle.of_machine.specs.declared.data.Item.{Item}
-use Rattle.of_machine.specs.TheWorld.{TheWorld}
-use Rattle.of_machine.specs.Rows.{entering}
-use Rattle.of_machine.specs.Sound.{IsSound}
-use Rattle.of_symbolic_run.specs.Received.{IsReceivedAt, items_at}
-use Rattle.of_symbolic_run.specs.FrameSets.{InFrames}
-use Rattle.of_symbolic_run.specs.States.{task_for}
-use Rattle.of_alike.specs.declared.alike.Compared.{Compared}
-use Rattle.of_diff.specs.declared.pair.Pair.{Pair}
-use Rattle.of_alike.specs.Agreeing.{AgreeFrom, AllFrom, GoOnAlike}
-use Rattle.of_alike.specs.Alike.{LeavesAlike, sent_by, to_controller}
-use Rattle.of_diff.specs.Differences.{IsTreatedAlike}
-use Rattle.of_alike.specs.Emitting.{LeaveAlike}
-use Rattle.of_diff.specs.Pairs.{AreStatesOfRuns}
-use Rattle.of_alike.specs.SamePorts.{SamePorts}
-use Rattle.of_alike.proofs.AgreeingRuns.{RestsAgree, rests_agree}
-use Rattle.of_alike.proofs.AlikeLemmas.{sent_front, told_front}
+use Rattle.of_machine.specs.{declared.data.Item.Item, TheWorld.TheWorld, Rows.entering, Sound.IsSound}
+use Rattle.of_symbolic_run.specs.{Received.IsReceivedAt, Received.items_at, FrameSets.InFrames, States.task_for}
+use Rattle.of_alike.specs.{declared.alike.Compared.Compared, Agreeing.AgreeFrom, Agreeing.AllFrom, Agreeing.GoOnAlike, Alike.LeavesAlike, Alike.sent_by, Alike.to_controller, Emitting.LeaveAlike}
+use Rattle.of_alike.{specs.SamePorts.SamePorts, proofs.AgreeingRuns.RestsAgree, proofs.AgreeingRuns.rests_agree, proofs.AlikeLemmas.sent_front, proofs.AlikeLemmas.told_front}
 use Rattle.of_alike.proofs.EmissionLemmas.{receives_at}
-use Rattle.of_diff.proofs.PairLemmas.{same_tasks}
+use Rattle.of_diff.{specs.declared.pair.Pair.Pair, specs.Differences.IsTreatedAlike, specs.Pairs.AreStatesOfRuns, proofs.PairLemmas.same_tasks}
 
 alike_before : (c : Compared) (a b x : List Item) → LeavesAlike c a b → LeavesAlike c (a ++ x) (b ++ x)
 alike_before c a b x h = record {

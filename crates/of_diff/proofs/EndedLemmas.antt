@@ -1,25 +1,14 @@
 -- Runs that are done.
 use Rattle.std.proofs.Common.{◌≡◌, ◌<◌, ◌^◌, ◌∙◌, ℕ, List, [], ◌∷◌, Option, Some, None, refl, sym, ap, arith, inl, inr}
 use Rattle.std.specs.Option.{option_map}
-use Rattle.of_machine.specs.TheWorld.{TheWorld}
-use Rattle.of_machine.specs.Rows.{Lookup, entering}
-use Rattle.of_machine.specs.Runs.{run_of}
-use Rattle.of_machine.specs.Sound.{IsSound}
-use Rattle.of_symbolic_run.specs.declared.state.SymbolicState.{SymbolicState}
-use Rattle.of_symbolic_run.specs.FrameSets.{InFrames}
-use Rattle.of_symbolic_run.specs.States.{IsAt, items_for}
-use Rattle.of_alike.specs.declared.alike.Compared.{Compared}
-use Rattle.of_diff.specs.declared.pair.Pair.{Pair}
-use Rattle.of_symbolic_run.specs.Received.{IsReceivedAt, items_at}
-use Rattle.of_diff.specs.Differences.{IsTreatedAlike}
-use Rattle.of_alike.specs.Emitting.{LeaveAlike}
-use Rattle.of_diff.specs.Pairs.{AreStatesOfRuns}
-use Rattle.of_alike.specs.SamePorts.{PortKey, SamePorts, port_key}
-use Rattle.of_alike.proofs.EmissionLemmas.{receives_at, same_port_at}
-use Rattle.of_ports.specs.declared.port.Port.{Port}
-use Rattle.of_ports.specs.Ports.{port_at}
-use Rattle.of_regions.specs.Witness.{IsIngressPort}
+use Rattle.of_machine.specs.{TheWorld.TheWorld, Rows.Lookup, Rows.entering, Runs.run_of, Sound.IsSound}
+use Rattle.of_symbolic_run.specs.{declared.state.SymbolicState.SymbolicState, FrameSets.InFrames, States.IsAt, States.items_for, Received.IsReceivedAt, Received.items_at}
 use Rattle.of_symbolic_run.specs.PortNumbers.{IsReceivingPort}
+use Rattle.of_alike.specs.{declared.alike.Compared.Compared, Emitting.LeaveAlike, SamePorts.PortKey, SamePorts.SamePorts, SamePorts.port_key}
+use Rattle.of_alike.proofs.EmissionLemmas.{receives_at, same_port_at}
+use Rattle.of_diff.specs.{declared.pair.Pair.Pair, Differences.IsTreatedAlike, Pairs.AreStatesOfRuns}
+use Rattle.of_ports.specs.{declared.port.Port.Port, Ports.port_at}
+use Rattle.of_regions.specs.Witness.{IsIngressPort}
 
 pub same_receiving : (ps qs : List Port) (n : ℕ) → SamePorts ps qs → IsReceivingPort ps n → IsReceivingPort qs n
 same_receiving ps qs n same r = by_port (port_at qs n) refl (same_port_at n ps qs same)

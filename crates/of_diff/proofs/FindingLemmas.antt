@@ -1,26 +1,14 @@
 -- What is known of two switches while pairs are left.
 use Rattle.std.proofs.Common.{arith, length, Result, Ok, Err, ◌≡◌, ◌<◌, ◌≤◌, ◌+◌, ◌-◌, ℕ, suc, ◌⊎◌, List, [], ◌∷◌, ◌++◌, refl, sym, subst, inl, inr}
-use Rattle.std.specs.Prelude.{OnOk, if◌then◌else◌, is_ok}
-use Rattle.std.specs.Global.{Vec}
-use Rattle.std.specs.List.{Contains}
 use Rattle.std.proofs.lemmas.List.Elements.{Contains-append_left, Contains-append_right, Contains-append_cases, Contains-push, Contains-push_cases}
+use Rattle.std.specs.{Prelude.OnOk, Prelude.if◌then◌else◌, Prelude.is_ok, Global.Vec, List.Contains}
 use Rattle.of_machine.specs.TheWorld.{TheWorld}
-use Rattle.of_symbolic_run.specs.declared.frame_set.FrameSet.{FrameSet}
-use Rattle.of_symbolic_run.specs.FrameSets.{InFrames}
-use Rattle.of_alike.specs.declared.alike.Compared.{Compared}
-use Rattle.of_diff.specs.declared.difference.Difference.{Difference}
-use Rattle.of_diff.specs.declared.difference.Differences.{Differences}
-use Rattle.of_diff.specs.declared.difference.Undecided.{Undecided}
-use Rattle.of_diff.specs.declared.pair.Pair.{Pair}
-use Rattle.of_symbolic_run.specs.Received.{IsReceivedAt}
-use Rattle.of_diff.specs.Comparing.{AreDifferences}
-use Rattle.of_diff.specs.Differences.{InDifferences, InUndecided, IsDifference, IsTreatedAlike}
-use Rattle.of_alike.specs.SamePorts.{SamePorts}
-use Rattle.of_diff.specs.declared.difference.Why.TheVariants.{Steps}
-use Rattle.of_diff.specs.NextPairs.{AreNextPairs}
-use Rattle.of_diff.specs.Pairs.{ArePairs, AreStatesOfRuns, InPairs, PutsDifference}
+use Rattle.of_symbolic_run.specs.{declared.frame_set.FrameSet.FrameSet, FrameSets.InFrames, Received.IsReceivedAt}
+use Rattle.of_alike.specs.{declared.alike.Compared.Compared, SamePorts.SamePorts}
 use Rattle.of_diff.specs.Reasons.{ArePairSteps, ArePairsAfter, IsFirstPair, IsPairStep, IsReasonOfPair, IsUndecidedSet}
-use Rattle.of_diff.specs.SoFar.{IsSoFar}
+use Rattle.of_diff.specs.{declared.difference.Difference.Difference, declared.difference.Differences.Differences, declared.difference.Undecided.Undecided, declared.pair.Pair.Pair}
+use Rattle.of_diff.specs.{Comparing.AreDifferences, Differences.InDifferences, Differences.InUndecided, Differences.IsDifference, Differences.IsTreatedAlike}
+use Rattle.of_diff.specs.{declared.difference.Why.TheVariants.Steps, NextPairs.AreNextPairs, Pairs.ArePairs, Pairs.AreStatesOfRuns, Pairs.InPairs, Pairs.PutsDifference, SoFar.IsSoFar}
 
 pub on_appended : {X Y E : Type 0} (r : Result Y E) (new old more : List X) (Q : Type 0) → new ≡ (if is_ok r then old ++ more else old) → (new ≡ old ++ more → Q) → OnOk r Q
 on_appended (Ok x) new old more Q is f = f is

@@ -1,21 +1,13 @@
 -- A difference is put to those found.
 use Rattle.std.proofs.Common.{◌≡◌, ◌<◌, ℕ, zero, suc, List, [], ◌∷◌, ◌++◌, length, get_or, set, map, Some, refl, sym, subst, ◌∙◌, arith, inl, inr, ◌⊎◌}
-use Rattle.std.specs.Prelude.{slice_get}
-use Rattle.std.specs.List.{Contains}
 use Rattle.std.proofs.lemmas.List.Elements.{Contains-append_cases, Contains-append_left, Contains-append_right, Contains-push, Contains-push_cases}
+use Rattle.std.specs.{Prelude.slice_get, List.Contains}
 use Rattle.of_machine.specs.TheWorld.{TheWorld}
-use Rattle.of_symbolic_run.specs.declared.frame_set.FrameSet.{FrameSet}
+use Rattle.of_symbolic_run.specs.{declared.frame_set.FrameSet.FrameSet, FrameSets.AreFramesMatching, FrameSets.InFrames, Received.IsReceivedAt, Received.items_at}
 use Rattle.of_oxm.specs.declared.match_field.MatchField.{MatchField}
-use Rattle.of_symbolic_run.specs.FrameSets.{AreFramesMatching, InFrames}
-use Rattle.of_symbolic_run.specs.Received.{IsReceivedAt, items_at}
-use Rattle.of_alike.specs.Alike.{DiffersAt}
+use Rattle.of_alike.specs.{Alike.DiffersAt, declared.alike.Compared.Compared, declared.alike.Where.Where}
 use Rattle.of_diff.specs.Differences.{InDifferences, InFirst, InSets, IsDifference, SomeDiffers}
-use Rattle.of_diff.specs.Pairs.{PutsDifference, place_of_difference}
-use Rattle.of_alike.specs.declared.alike.Compared.{Compared}
-use Rattle.of_alike.specs.declared.alike.Where.{Where}
-use Rattle.of_diff.specs.declared.difference.Difference.{Difference}
-use Rattle.of_diff.specs.declared.ending.FrameShown.{FrameShown}
-use Rattle.of_diff.specs.Shown.{IsShown}
+use Rattle.of_diff.specs.{Pairs.PutsDifference, Pairs.place_of_difference, declared.difference.Difference.Difference, declared.ending.FrameShown.FrameShown, Shown.IsShown}
 
 none_contained : {A : Type 0} (x : A) → Contains {X = A} [] x → ⊥
 none_contained x h = absurd (omega (arith, h.1))

@@ -1,38 +1,17 @@
 -- A lookup in tables that say the same.
 use Rattle.std.proofs.Common.{◌≡◌, ℕ, zero, suc, eqb, cond, Bool, true, false, List, [], ◌∷◌, ◌++◌, map, Option, Some, None, refl, sym, ap, subst, ◌∙◌, inl, arith}
-use Rattle.std.specs.Prelude.{slice_get}
-use Rattle.std.specs.Option.{option_map}
-use Rattle.std.specs.List.{Contains}
-use Rattle.std.proofs.lemmas.Bool.{eqb-true}
-use Rattle.std.proofs.lemmas.Bool.Decides.{nat_tests}
-use Rattle.of_table.specs.declared.flow.Flow.{Flow}
-use Rattle.of_table.specs.Table.{FlowEntry, flow_at}
-use Rattle.of_machine.specs.declared.data.Item.{Item}
-use Rattle.of_machine.specs.declared.data.Packet.{Packet}
-use Rattle.of_machine.specs.declared.data.Step.{Step}
-use Rattle.of_machine.specs.Rows.{Row, Task, entry_row, lookup_row}
-use Rattle.of_machine.specs.TheWorld.{TheWorld}
-use Rattle.of_machine.specs.Sound.{IsSound}
+use Rattle.std.{specs.Prelude.slice_get, specs.Option.option_map, specs.List.Contains, proofs.lemmas.Bool.eqb-true, proofs.lemmas.Bool.Decides.nat_tests}
+use Rattle.of_table.specs.{declared.flow.Flow.Flow, Table.FlowEntry, Table.flow_at}
+use Rattle.of_machine.specs.{declared.data.Item.Item, declared.data.Packet.Packet, declared.data.Step.Step, Rows.Row, Rows.Task, Rows.entry_row, Rows.lookup_row, TheWorld.TheWorld, Sound.IsSound}
 use Rattle.of_datapath.specs.Datapath.{Forwarding, world_of}
-use Rattle.of_symbolic_run.specs.declared.dividing.Case.{Case}
-use Rattle.of_symbolic_run.specs.declared.advance.Advance.TheVariants as advances
-use Rattle.of_symbolic_run.specs.declared.joint.JointCase.{JointCase}
-use Rattle.of_symbolic_run.specs.declared.state.SymbolicState.{SymbolicState}
-use Rattle.of_symbolic_run.specs.Cases.{AreCases, IsTableOf}
-use Rattle.of_symbolic_run.proofs.ReceivedLemmas.{fewer_received}
-use Rattle.of_symbolic_run.specs.FrameSets.{InFrames}
-use Rattle.of_symbolic_run.specs.NextStates.{AreNextStates, IsNextState, chosen_row}
 use Rattle.of_symbolic_run.specs.States.{IsAt, answer_to_tasks, answer_to_works, items_for, packet_for, task_for}
-use Rattle.of_symbolic_run.specs.JointCases.{first_case, first_cases, second_case, second_cases}
-use Rattle.of_alike.specs.declared.alike.Compared.{Compared}
-use Rattle.of_diff.specs.declared.pair.Pair.{Pair}
-use Rattle.of_alike.specs.Agreeing.{AgreeFrom, AreSameFlows}
-use Rattle.of_diff.specs.Changing.{entries_in}
-use Rattle.of_diff.specs.NextPairs.{AreNextPairs, ArePairsApart, IsNextPair}
-use Rattle.of_diff.specs.Pairs.{ArePairs, pair_of_case}
-use Rattle.of_alike.specs.SameTables.{EntrySays, SameTables, says_of}
-use Rattle.of_alike.proofs.HitLemmas.{same_at, same_winner}
-use Rattle.of_alike.proofs.SameRunLemmas.{at_one, at_other}
+use Rattle.of_symbolic_run.specs.{declared.dividing.Case.Case, declared.joint.JointCase.JointCase, declared.state.SymbolicState.SymbolicState, Cases.AreCases, Cases.IsTableOf, FrameSets.InFrames}
+use Rattle.of_symbolic_run.specs.NextStates.{AreNextStates, IsNextState, chosen_row}
+use Rattle.of_symbolic_run.{specs.JointCases.first_case, specs.JointCases.first_cases, specs.JointCases.second_case, specs.JointCases.second_cases, proofs.ReceivedLemmas.fewer_received}
+use Rattle.of_symbolic_run.specs.declared.advance.Advance.TheVariants as advances
+use Rattle.of_alike.specs.{declared.alike.Compared.Compared, Agreeing.AgreeFrom, Agreeing.AreSameFlows, SameTables.EntrySays, SameTables.SameTables, SameTables.says_of}
+use Rattle.of_alike.proofs.{HitLemmas.same_at, HitLemmas.same_winner, SameRunLemmas.at_one, SameRunLemmas.at_other}
+use Rattle.of_diff.specs.{declared.pair.Pair.Pair, Changing.entries_in, NextPairs.AreNextPairs, NextPairs.ArePairsApart, NextPairs.IsNextPair, Pairs.ArePairs, Pairs.pair_of_case}
 use Rattle.of_diff.proofs.PairLemmas.{in_one_part}
 
 -- ---- entries that say the same

@@ -1,23 +1,14 @@
 -- Pairs of states after a step of one of the two runs.
 use Rattle.std.proofs.Common.{arith, ◌≡◌, ℕ, zero, suc, ◌⊎◌, List, [], ◌∷◌, ◌++◌, Some, refl, sym, ap, ◌∙◌, subst, inl, inr}
-use Rattle.std.specs.Prelude.{map, slice_get}
-use Rattle.std.specs.List.{Contains}
-use Rattle.std.proofs.lemmas.List.{append-nil}
+use Rattle.std.{specs.Prelude.map, specs.Prelude.slice_get, specs.List.Contains, proofs.lemmas.List.append-nil}
 use Rattle.std.proofs.lemmas.List.Elements.{Contains-push, Contains-push_cases}
 use Rattle.of_machine.specs.TheWorld.{TheWorld}
-use Rattle.of_symbolic_run.specs.declared.dividing.Case.{Case}
-use Rattle.of_symbolic_run.specs.declared.state.SymbolicState.{SymbolicState}
-use Rattle.of_symbolic_run.specs.declared.state.SymbolicTask.{SymbolicTask}
-use Rattle.of_symbolic_run.specs.Cases.{AreCases}
-use Rattle.of_symbolic_run.specs.FrameSets.{InFrames}
-use Rattle.of_symbolic_run.proofs.ReceivedLemmas.{fewer_received}
-use Rattle.of_symbolic_run.specs.NextStates.{AreNextStates, IsNextState}
-use Rattle.of_symbolic_run.specs.States.{AreTaskCopies, IsAt, IsStateCopy, task_for}
-use Rattle.of_symbolic_run.proofs.NextLemmas.{some_same}
+use Rattle.of_symbolic_run.specs.{declared.dividing.Case.Case, declared.state.SymbolicState.SymbolicState, declared.state.SymbolicTask.SymbolicTask, Cases.AreCases, FrameSets.InFrames}
+use Rattle.of_symbolic_run.specs.{NextStates.AreNextStates, NextStates.IsNextState, States.AreTaskCopies, States.IsAt, States.IsStateCopy, States.task_for}
+use Rattle.of_symbolic_run.proofs.{ReceivedLemmas.fewer_received, NextLemmas.some_same}
 use Rattle.of_alike.specs.declared.alike.Compared.{Compared}
-use Rattle.of_diff.specs.declared.pair.Pair.{Pair}
-use Rattle.of_diff.specs.NextPairs.{AreNextPairs, ArePairsApart, IsNextPair, pairs_of_parts}
 use Rattle.of_diff.specs.Pairs.{AreByFirst, AreBySecond, AreLinedUp, ArePairs, AreStatesOfRuns, IsByFirst, IsBySecond}
+use Rattle.of_diff.specs.{declared.pair.Pair.Pair, NextPairs.AreNextPairs, NextPairs.ArePairsApart, NextPairs.IsNextPair, NextPairs.pairs_of_parts}
 
 pub same_tasks : (frame : List ℕ) (port : ℕ) (ts cs : List SymbolicTask) → AreTaskCopies ts cs → map (task_for frame port) cs ≡ map (task_for frame port) ts
 same_tasks frame port [] [] h = refl

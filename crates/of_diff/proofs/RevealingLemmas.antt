@@ -1,10 +1,7 @@
 -- Conditions under some bits of a field.
 use Rattle.std.proofs.Common.{◌≡◌, ◌∙◌, ap, ℕ, List, [], ◌∷◌, ◌++◌, Some}
-use Rattle.std.specs.Int.Bits.{bit_and, and_self}
-use Rattle.std.proofs.lemmas.Nat.{and_assoc}
-use Rattle.of_layers.specs.declared.field.Field.{Field}
-use Rattle.of_layers.specs.declared.field.FieldRow.{FieldRow}
-use Rattle.of_layers.specs.Fields.{ones_of, row_of}
+use Rattle.std.{specs.Int.Bits.bit_and, specs.Int.Bits.and_self, proofs.lemmas.Nat.and_assoc}
+use Rattle.of_layers.specs.{declared.field.Field.Field, declared.field.FieldRow.FieldRow, Fields.ones_of, Fields.row_of}
 use Rattle.of_oxm.specs.declared.match_field.MatchField.{MatchField}
 use Rattle.of_regions.specs.Conditions.{AreConditions, IsCondition}
 use Rattle.of_alike.proofs.Agreeing.{all_both}

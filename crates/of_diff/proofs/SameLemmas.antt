@@ -1,25 +1,12 @@
 -- Switches that do the same from table 0 on treat each frame alike.
 use Rattle.std.proofs.Common.{◌≡◌, ℕ, List, [], Option, Some, None, inr, refl, subst, arith}
-use Rattle.std.specs.Prelude.{IfSome}
-use Rattle.std.specs.List.{Contains}
-use Rattle.of_machine.specs.TheWorld.{TheWorld}
-use Rattle.of_machine.specs.Rows.{entering}
-use Rattle.of_machine.specs.Runs.{after}
-use Rattle.of_machine.specs.Sound.{IsSound}
+use Rattle.std.specs.{Prelude.IfSome, List.Contains}
+use Rattle.of_machine.specs.{TheWorld.TheWorld, Rows.entering, Runs.after, Sound.IsSound}
 use Rattle.of_symbolic_run.specs.Received.{items_at}
-use Rattle.of_alike.specs.declared.alike.Compared.{Compared}
-use Rattle.of_alike.specs.Agreeing.{AgreeFrom}
-use Rattle.of_alike.specs.Alike.{LeavesAlike}
-use Rattle.of_alike.specs.SamePorts.{SamePorts}
-use Rattle.of_alike.proofs.AgreeingRuns.{rests_agree}
+use Rattle.of_alike.{specs.declared.alike.Compared.Compared, specs.Agreeing.AgreeFrom, specs.Alike.LeavesAlike, specs.SamePorts.SamePorts, proofs.AgreeingRuns.rests_agree}
 use Rattle.of_datapath.specs.Datapath.{Forwarding, world_of}
-use Rattle.of_diff.specs.Changing.{IsAgreement}
-use Rattle.of_diff.specs.Comparing.{AreDifferences}
-use Rattle.of_diff.specs.Differences.{IsTreatedAlike}
-use Rattle.of_diff.specs.SameSwitches.{AgreeInAll}
-use Rattle.of_diff.specs.declared.agreement.Agreement.{Agreement}
-use Rattle.of_diff.specs.declared.difference.Differences.{Differences}
-use Rattle.of_diff.proofs.CutLemmas.{rests_alike}
+use Rattle.of_diff.specs.{Changing.IsAgreement, Comparing.AreDifferences, Differences.IsTreatedAlike, SameSwitches.AgreeInAll, declared.agreement.Agreement.Agreement}
+use Rattle.of_diff.{specs.declared.difference.Differences.Differences, proofs.CutLemmas.rests_alike}
 
 module _ (c : Compared) (w v : TheWorld) (sound : IsSound w) (sound' : IsSound v) (agree : AgreeFrom 0 w v) where
   nothing_sent : LeavesAlike c [] []

@@ -1,17 +1,11 @@
 -- Work that comes to no table before one.
 use Rattle.std.proofs.Common.{◌≡◌, ℕ, true, false, ◌-◌, List, [], ◌∷◌, length, drop, take, ap, subst, ◌∙◌, arith, length-drop}
-use Rattle.std.specs.Prelude.{slice_index_or}
-use Rattle.std.specs.List.{list_all}
-use Rattle.std.proofs.lemmas.List.{take_all}
-use Rattle.of_actions.specs.declared.action.Action.{Action}
-use Rattle.of_actions.specs.Supported.{is_supported}
+use Rattle.std.{specs.Prelude.slice_index_or, specs.List.list_all, proofs.lemmas.List.take_all}
+use Rattle.of_actions.specs.{declared.action.Action.Action, Supported.is_supported}
 use Rattle.of_action_set.specs.Sets.{with_actions}
-use Rattle.of_alike.specs.Agreeing.{AreNoTable}
+use Rattle.of_alike.{specs.Agreeing.AreNoTable, proofs.Agreeing.set_with_all, proofs.AgreeingRuns.all_no_table}
 use Rattle.of_diff.specs.Changing.{FirstSetIsOfPorts}
-use Rattle.of_alike.proofs.Agreeing.{set_with_all}
-use Rattle.of_alike.proofs.AgreeingRuns.{all_no_table}
-use Rattle.of_symbolic_run.specs.declared.state.SymbolicTask.{SymbolicTask}
-use Rattle.of_symbolic_run.specs.States.{answer_to_tasks}
+use Rattle.of_symbolic_run.specs.{declared.state.SymbolicTask.SymbolicTask, States.answer_to_tasks}
 use Rattle.of_symbolic_run.specs.declared.advance.Advance.TheVariants as advances
 
 -- the action set of the first packet

@@ -1,19 +1,11 @@
 -- What a switch tells the controller of the packets that go to it depends on the ports that are silent.
 use Rattle.std.proofs.Common.{◌≡◌, ◌∙◌, sym, ap, ◌^◌, Bool, true, false, cond, not, ◌&&◌, List, [], ◌∷◌, Option, Some, None, refl}
-use Rattle.std.specs.List.{filter}
-use Rattle.std.specs.Option.{option_map, option_map_or}
+use Rattle.std.specs.{List.filter, Option.option_map, Option.option_map_or}
 use Rattle.of_wire.specs.Reasons.{packet_in_number}
-use Rattle.of_ports.specs.declared.port.Port.{Port}
-use Rattle.of_ports.specs.Ports.{port_at}
-use Rattle.of_machine.specs.declared.data.Item.{Item}
-use Rattle.of_machine.specs.declared.data.Item.TheVariants.{PacketIn, Sent}
-use Rattle.of_machine.specs.declared.data.ToController.{ToController}
-use Rattle.of_datapath.specs.declared.control.AsyncConfig.{AsyncConfig}
-use Rattle.of_datapath.specs.Control.{lets_pass}
-use Rattle.of_datapath.specs.Told.{given_items, is_given, is_no_match}
-use Rattle.of_alike.specs.Alike.{LeavesAlike, to_controller}
-use Rattle.of_alike.specs.SamePorts.{PortKey, SamePorts, port_key}
-use Rattle.of_alike.specs.declared.alike.Compared.TheVariants.{All}
+use Rattle.of_ports.specs.{declared.port.Port.Port, Ports.port_at}
+use Rattle.of_machine.specs.{declared.data.Item.Item, declared.data.Item.TheVariants.PacketIn, declared.data.Item.TheVariants.Sent, declared.data.ToController.ToController}
+use Rattle.of_datapath.specs.{declared.control.AsyncConfig.AsyncConfig, Control.lets_pass, Told.given_items, Told.is_given, Told.is_no_match}
+use Rattle.of_alike.specs.{Alike.LeavesAlike, Alike.to_controller, SamePorts.PortKey, SamePorts.SamePorts, SamePorts.port_key, declared.alike.Compared.TheVariants.All}
 use Rattle.of_alike.proofs.EmissionLemmas.{same_port_at}
 
 -- whether a packet to the controller is told

@@ -1,34 +1,20 @@
 -- For contracts inside this crate: frames that match one of the changed entries of a table, and what both switches do with the others (OpenFlow 1.3.5, 5.3).
 use Rattle.std.specs.Prelude.{◌≡◌, ℕ, ◌<◌, ◌≤◌, ◌-◌, ◌++◌, ◌⊎◌, List, [], ◌∷◌, Option, Some, ⊤, true, length, slice_get, drop, Bool}
-use Rattle.std.specs.Global.{Vec}
-use Rattle.std.specs.List.{Contains}
+use Rattle.std.specs.{Global.Vec, List.Contains}
 use Rattle.of_layers.specs.declared.field.Field.{Field}
-use Rattle.of_oxm.specs.declared.match_field.MatchField.{MatchField}
-use Rattle.of_oxm.specs.Relations.{matches_map}
+use Rattle.of_oxm.specs.{declared.match_field.MatchField.MatchField, Relations.matches_map}
 use Rattle.of_rewrite.specs.Frames.{IsFrame}
 use Rattle.of_actions.specs.declared.action.Action.{Action}
 use Rattle.of_action_set.specs.Sets.{with_actions}
-use Rattle.of_table.specs.Table.{FlowEntry}
-use Rattle.of_table.specs.Tables.{table_at}
+use Rattle.of_table.specs.{Table.FlowEntry, Tables.table_at}
 use Rattle.of_datapath.specs.Datapath.{Forwarding, world_of}
-use Rattle.of_symbolic.specs.Branches.{rewritten_fields}
-use Rattle.of_symbolic.specs.InnerTags.{description_of}
+use Rattle.of_symbolic.specs.{Branches.rewritten_fields, InnerTags.description_of}
 use Rattle.of_machine.specs.TheWorld.{TheWorld}
-use Rattle.of_symbolic_run.specs.declared.dividing.Case.{Case}
-use Rattle.of_symbolic_run.specs.declared.frame_set.FrameSet.{FrameSet}
-use Rattle.of_symbolic_run.specs.declared.state.SymbolicState.{SymbolicState}
-use Rattle.of_symbolic_run.specs.declared.state.SymbolicTask.{SymbolicTask}
-use Rattle.of_symbolic_run.specs.Cases.{AreCases}
-use Rattle.of_symbolic_run.specs.FrameSets.{InFrames}
-use Rattle.of_symbolic_run.specs.NextStates.{AreNextStates}
-use Rattle.of_symbolic_run.specs.States.{AreTaskCopies, answer_to_tasks}
-use Rattle.of_symbolic_run.specs.declared.advance.Advance.TheVariants.{Lookup}
-use Rattle.of_diff.specs.declared.agreement.Agreement.{Agreement}
-use Rattle.of_alike.specs.Agreeing.{AgreeFrom, AreNoTable, StayFrom}
-use Rattle.of_diff.specs.NextPairs.{ArePairsApart, IsNextPair, pairs_of_parts}
-use Rattle.of_diff.specs.Pairs.{AreByFirst, AreStatesOfRuns, InPairs}
-use Rattle.of_alike.specs.SameTables.{AreChanged}
+use Rattle.of_symbolic_run.specs.{declared.dividing.Case.Case, declared.frame_set.FrameSet.FrameSet, declared.state.SymbolicState.SymbolicState, declared.state.SymbolicTask.SymbolicTask}
+use Rattle.of_symbolic_run.specs.{Cases.AreCases, FrameSets.InFrames, NextStates.AreNextStates, States.AreTaskCopies, States.answer_to_tasks, declared.advance.Advance.TheVariants.Lookup}
+use Rattle.of_diff.specs.{declared.agreement.Agreement.Agreement, NextPairs.ArePairsApart, NextPairs.IsNextPair, NextPairs.pairs_of_parts, Pairs.AreByFirst, Pairs.AreStatesOfRuns, Pairs.InPairs}
 use Rattle.of_diff.specs.declared.pair.Pair.{Pair}
+use Rattle.of_alike.specs.{Agreeing.AgreeFrom, Agreeing.AreNoTable, Agreeing.StayFrom, SameTables.AreChanged}
 
 abbrev pub entries_in : Forwarding → ℕ → List FlowEntry
 entries_in f t = (table_at t f.tables).flows

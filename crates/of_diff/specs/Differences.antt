@@ -2,14 +2,9 @@
 use Rattle.std.specs.Prelude.{◌≡◌, ℕ, List, [], ◌∷◌}
 use Rattle.std.specs.List.{Contains}
 use Rattle.of_machine.specs.TheWorld.{TheWorld}
-use Rattle.of_symbolic_run.specs.declared.frame_set.FrameSet.{FrameSet}
-use Rattle.of_symbolic_run.specs.FrameSets.{InFrames}
-use Rattle.of_symbolic_run.specs.Received.{IsReceivedAt, items_at}
-use Rattle.of_alike.specs.Alike.{DiffersAt, LeavesAlike}
-use Rattle.of_alike.specs.declared.alike.Compared.{Compared}
-use Rattle.of_alike.specs.declared.alike.Where.{Where}
-use Rattle.of_diff.specs.declared.difference.Difference.{Difference}
-use Rattle.of_diff.specs.declared.difference.Undecided.{Undecided}
+use Rattle.of_symbolic_run.specs.{declared.frame_set.FrameSet.FrameSet, FrameSets.InFrames, Received.IsReceivedAt, Received.items_at}
+use Rattle.of_alike.specs.{Alike.DiffersAt, Alike.LeavesAlike, declared.alike.Compared.Compared, declared.alike.Where.Where}
+use Rattle.of_diff.specs.{declared.difference.Difference.Difference, declared.difference.Undecided.Undecided}
 
 -- both switches treat a frame alike
 abbrev pub IsTreatedAlike : Compared → TheWorld → TheWorld → List ℕ → ℕ → Type 0

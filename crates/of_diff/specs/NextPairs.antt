@@ -3,10 +3,7 @@ use Rattle.std.specs.Prelude.{◌≡◌, ◌⊎◌, ◌≤◌, ◌+◌, ◌++◌
 use Rattle.std.specs.List.{Contains}
 use Rattle.of_table.specs.Table.{FlowEntry}
 use Rattle.of_machine.specs.TheWorld.{TheWorld}
-use Rattle.of_symbolic_run.specs.declared.advance.Advance.TheVariants.{Lookup}
-use Rattle.of_symbolic_run.specs.Cases.{IsTableOf}
-use Rattle.of_symbolic_run.specs.NextStates.{IsNextState}
-use Rattle.of_symbolic_run.specs.States.{IsStateCopy, answer_to_tasks}
+use Rattle.of_symbolic_run.specs.{declared.advance.Advance.TheVariants.Lookup, Cases.IsTableOf, NextStates.IsNextState, States.IsStateCopy, States.answer_to_tasks}
 use Rattle.of_diff.specs.declared.pair.Pair.{Pair}
 
 -- the run that takes no step keeps its state

@@ -3,17 +3,10 @@ use Rattle.std.specs.Prelude.{◌≡◌, ℕ, ◌⊎◌, List, [], ◌∷◌, �
 use Rattle.std.specs.List.{Contains}
 use Rattle.of_rewrite.specs.Frames.{IsFrame}
 use Rattle.of_machine.specs.TheWorld.{TheWorld}
-use Rattle.of_symbolic_run.specs.declared.dividing.Case.{Case}
-use Rattle.of_symbolic_run.specs.declared.joint.JointCase.{JointCase}
-use Rattle.of_symbolic_run.specs.declared.state.SymbolicState.{SymbolicState}
-use Rattle.of_symbolic_run.specs.FrameSets.{InFrames}
-use Rattle.of_symbolic_run.specs.States.{IsAt, IsStateCopy}
+use Rattle.of_symbolic_run.specs.{declared.dividing.Case.Case, declared.joint.JointCase.JointCase, declared.state.SymbolicState.SymbolicState, FrameSets.InFrames, States.IsAt, States.IsStateCopy}
 use Rattle.of_symbolic_run.specs.Received.{AreReceived, IsReceivedAt}
-use Rattle.of_diff.specs.Differences.{InDifferences, InSets, IsTreatedAlike, IsDifference}
-use Rattle.of_alike.specs.declared.alike.Compared.{Compared}
-use Rattle.of_alike.specs.declared.alike.Where.{Where}
-use Rattle.of_diff.specs.declared.difference.Difference.{Difference}
-use Rattle.of_diff.specs.declared.pair.Pair.{Pair}
+use Rattle.of_diff.specs.{Differences.InDifferences, Differences.InSets, Differences.IsTreatedAlike, Differences.IsDifference, declared.difference.Difference.Difference, declared.pair.Pair.Pair}
+use Rattle.of_alike.specs.{declared.alike.Compared.Compared, declared.alike.Where.Where}
 
 -- both states are those of the runs of each frame, and each frame comes in by a port that receives
 pub record AreStatesOfRuns (w v : TheWorld) (p : Pair) : Type 0 where

@@ -2,22 +2,12 @@
 use Rattle.std.specs.Prelude.{◌≡◌, ◌≢◌, ◌≤◌, ◌⊎◌, ◌++◌, ℕ, zero, suc, List, [], ◌∷◌}
 use Rattle.std.specs.List.{Contains}
 use Rattle.of_machine.specs.TheWorld.{TheWorld}
-use Rattle.of_symbolic_run.specs.declared.frame_set.FrameSet.{FrameSet}
+use Rattle.of_symbolic_run.specs.{declared.frame_set.FrameSet.FrameSet, FrameSets.FindsFrame, FrameSets.InFrames, NextStates.IsFirstState, Received.IsReceivedAt, Sides.IsUnknownLookup}
 use Rattle.of_symbolic_run.specs.declared.finding.FrameFound.TheVariants as found
-use Rattle.of_symbolic_run.specs.FrameSets.{FindsFrame, InFrames}
-use Rattle.of_symbolic_run.specs.NextStates.{IsFirstState}
-use Rattle.of_symbolic_run.specs.Received.{IsReceivedAt}
-use Rattle.of_symbolic_run.specs.Sides.{IsUnknownLookup}
-use Rattle.of_alike.specs.Agreeing.{AgreeFrom, GoOnAlike}
-use Rattle.of_diff.specs.Differences.{IsDifference, IsTreatedAlike}
-use Rattle.of_diff.specs.NextPairs.{AreNextPairs}
-use Rattle.of_diff.specs.Pairs.{ArePairs, AreStatesOfRuns}
-use Rattle.of_alike.specs.declared.alike.Compared.{Compared}
-use Rattle.of_diff.specs.declared.difference.Difference.{Difference}
-use Rattle.of_diff.specs.declared.difference.Undecided.{Undecided}
-use Rattle.of_diff.specs.declared.difference.Why.{Why}
+use Rattle.of_alike.specs.{Agreeing.AgreeFrom, Agreeing.GoOnAlike, declared.alike.Compared.Compared}
+use Rattle.of_diff.specs.{Differences.IsDifference, Differences.IsTreatedAlike, NextPairs.AreNextPairs, Pairs.ArePairs, Pairs.AreStatesOfRuns, declared.difference.Difference.Difference}
+use Rattle.of_diff.specs.{declared.difference.Undecided.Undecided, declared.difference.Why.Why, declared.pair.Pair.Pair}
 use Rattle.of_diff.specs.declared.difference.Why.TheVariants as why
-use Rattle.of_diff.specs.declared.pair.Pair.{Pair}
 
 -- ---- reasons
 

@@ -2,11 +2,8 @@
 use Rattle.std.specs.Prelude.{◌≡◌, ℕ, [], Option, Some, None}
 use Rattle.of_table.specs.Tables.{table_at}
 use Rattle.of_datapath.specs.Datapath.{Forwarding}
-use Rattle.of_alike.specs.SameGroups.{SameGroups}
-use Rattle.of_alike.specs.SamePorts.{SamePorts}
-use Rattle.of_alike.specs.SameTables.{SameTables}
-use Rattle.of_diff.specs.declared.agreement.Agreement.{Agreement}
-use Rattle.of_diff.specs.declared.difference.Differences.{Differences}
+use Rattle.of_alike.specs.{SameGroups.SameGroups, SamePorts.SamePorts, SameTables.SameTables}
+use Rattle.of_diff.specs.{declared.agreement.Agreement.Agreement, declared.difference.Differences.Differences}
 
 pub record AreSameSwitches (f g : Forwarding) : Type 0 where
   pub ports : SamePorts f.ports g.ports

@@ -2,14 +2,9 @@
 use Rattle.std.specs.Prelude.{◌≡◌, ℕ, List}
 use Rattle.of_rewrite.specs.Frames.{IsFrame}
 use Rattle.of_machine.specs.TheWorld.{TheWorld}
-use Rattle.of_symbolic_run.specs.declared.frame_set.FrameSet.{FrameSet}
-use Rattle.of_symbolic_run.specs.FrameSets.{InFrames}
-use Rattle.of_symbolic_run.specs.Received.{IsReceivedAt, items_at}
-use Rattle.of_alike.specs.Alike.{DiffersAt}
-use Rattle.of_diff.specs.Reasons.{IsTriedReason}
-use Rattle.of_alike.specs.declared.alike.Compared.{Compared}
-use Rattle.of_diff.specs.declared.ending.FrameShown.{FrameShown}
-use Rattle.of_diff.specs.declared.ending.Tried.{Tried}
+use Rattle.of_symbolic_run.specs.{declared.frame_set.FrameSet.FrameSet, FrameSets.InFrames, Received.IsReceivedAt, Received.items_at}
+use Rattle.of_alike.specs.{Alike.DiffersAt, declared.alike.Compared.Compared}
+use Rattle.of_diff.specs.{Reasons.IsTriedReason, declared.ending.FrameShown.FrameShown, declared.ending.Tried.Tried}
 use Rattle.of_diff.specs.declared.ending.Tried.TheVariants as tried
 
 -- both switches receive the frame, which is in the set, and something else leaves them

@@ -2,18 +2,11 @@
 use Rattle.std.specs.Prelude.{◌≡◌, ℕ, ◌⊎◌, List, [], ◌∷◌}
 use Rattle.std.specs.List.{Contains}
 use Rattle.of_machine.specs.TheWorld.{TheWorld}
-use Rattle.of_symbolic_run.specs.FrameSets.{InFrames}
-use Rattle.of_symbolic_run.specs.Received.{IsReceivedAt}
-use Rattle.of_diff.specs.Differences.{InDifferences, InUndecided, IsDifference, IsTreatedAlike}
-use Rattle.of_diff.specs.NextPairs.{AreNextPairs}
-use Rattle.of_diff.specs.Pairs.{ArePairs, AreStatesOfRuns, InPairs}
-use Rattle.of_diff.specs.Reasons.{IsReasonOfPair, IsUndecidedSet}
+use Rattle.of_symbolic_run.specs.{FrameSets.InFrames, Received.IsReceivedAt}
+use Rattle.of_diff.specs.{Differences.InDifferences, Differences.InUndecided, Differences.IsDifference, Differences.IsTreatedAlike, NextPairs.AreNextPairs}
+use Rattle.of_diff.specs.{Pairs.ArePairs, Pairs.AreStatesOfRuns, Pairs.InPairs, Reasons.IsReasonOfPair, Reasons.IsUndecidedSet, declared.difference.Difference.Difference}
+use Rattle.of_diff.specs.{declared.difference.Differences.Differences, declared.difference.Undecided.Undecided, declared.pair.Pair.Pair, declared.pair.Next.Next}
 use Rattle.of_alike.specs.declared.alike.Compared.{Compared}
-use Rattle.of_diff.specs.declared.difference.Difference.{Difference}
-use Rattle.of_diff.specs.declared.difference.Differences.{Differences}
-use Rattle.of_diff.specs.declared.difference.Undecided.{Undecided}
-use Rattle.of_diff.specs.declared.pair.Pair.{Pair}
-use Rattle.of_diff.specs.declared.pair.Next.{Next}
 use Rattle.of_diff.specs.declared.pair.Next.TheVariants as next
 
 -- what comes of a pair

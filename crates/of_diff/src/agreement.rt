@@ -1,11 +1,8 @@
 //! From which table on two switches do the same.
 ghost use Rattle.std.specs.Prelude.{◌≡◌, ◌↔◌, ◌≤◌, IfOk, IfSome, IsTrue, Some};
-ghost use Rattle.of_datapath.specs.Datapath.{world_of};
-ghost use Rattle.of_datapath.specs.Numbers.{forwarding_of};
-ghost use Rattle.of_alike.specs.Agreeing.{AgreeFrom};
-ghost use Rattle.of_diff.specs.Changing.{IsAgreement};
-ghost use Rattle.of_diff.specs.SameSwitches.{AgreeInAll, AreSameSwitches};
-ghost use Rattle.of_alike.specs.SamePorts.{SamePorts};
+ghost use Rattle.of_datapath.specs.{Datapath.world_of, Numbers.forwarding_of};
+ghost use Rattle.of_alike.specs.{Agreeing.AgreeFrom, SamePorts.SamePorts};
+ghost use Rattle.of_diff.specs.{Changing.IsAgreement, SameSwitches.AgreeInAll, SameSwitches.AreSameSwitches};
 
 use of_alike::{Changed, changed_entries, have_same_entries, have_same_groups};
 use of_classifier::Lookup;

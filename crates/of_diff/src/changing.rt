@@ -1,25 +1,17 @@
 //! A lookup in a table of which some entries changed, if both switches do the same after it.
 ghost use Rattle.std.specs.Prelude.{◌≡◌, ◌<◌, ◌≤◌, ◌+◌, ◌-◌, IfOk, IfSome, IsTrue, OnOk, List, length, true};
-ghost use Rattle.std.specs.Global.{Vec as AVec};
-ghost use Rattle.std.specs.List.{Contains};
+ghost use Rattle.std.specs.{Global.Vec as AVec, List.Contains};
 ghost use Rattle.of_actions.specs.declared.action.Action.{Action};
-ghost use Rattle.of_datapath.specs.Datapath.{world_of};
-ghost use Rattle.of_datapath.specs.Numbers.{forwarding_of};
+ghost use Rattle.of_datapath.specs.{Datapath.world_of, Numbers.forwarding_of};
 ghost use Rattle.of_machine.specs.TheWorld.{TheWorld};
 ghost use Rattle.of_oxm.specs.declared.match_field.MatchField.{MatchField as AMatchField};
 ghost use Rattle.of_regions.specs.Conditions.{AreConditions};
-ghost use Rattle.of_symbolic.specs.Actions.{AreRewriting};
-ghost use Rattle.of_symbolic.specs.Overlays.{IsOverlay};
-ghost use Rattle.of_symbolic.specs.Parts.{AreListsOfConditions};
-ghost use Rattle.of_symbolic_run.specs.States.{answer_to_tasks};
-ghost use Rattle.of_symbolic_run.specs.declared.advance.Advance.TheVariants.{Lookup as WantsLookup};
+ghost use Rattle.of_symbolic.specs.{Actions.AreRewriting, Overlays.IsOverlay, Parts.AreListsOfConditions};
+ghost use Rattle.of_symbolic_run.specs.{States.answer_to_tasks, declared.advance.Advance.TheVariants.Lookup as WantsLookup};
 ghost use Rattle.of_table.specs.Entries.{entry_of, flows_of};
-ghost use Rattle.of_alike.specs.declared.alike.Compared.{Compared};
+ghost use Rattle.of_alike.specs.{declared.alike.Compared.Compared, Emitting.LeaveAlike, SamePorts.SamePorts};
 ghost use Rattle.of_diff.specs.Changing.{AddsPairs, AddsSet, AreAtTableBefore, AreMarkedAskedIn, AreMatchedSets, ArePairsOf, IsAgreement, IsAskedIn, entries_in};
-ghost use Rattle.of_alike.specs.Emitting.{LeaveAlike};
-ghost use Rattle.of_diff.specs.NextPairs.{AreNextPairs};
-ghost use Rattle.of_diff.specs.Pairs.{ArePairs};
-ghost use Rattle.of_alike.specs.SamePorts.{SamePorts};
+ghost use Rattle.of_diff.specs.{NextPairs.AreNextPairs, Pairs.ArePairs};
 
 use crate::agreement::Agreement;
 use crate::pair::{Pair, pairs_by_first};

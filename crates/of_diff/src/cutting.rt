@@ -1,13 +1,8 @@
 //! Pairs of states whose runs are done, or go on alike.
 ghost use Rattle.std.specs.Prelude.{◌≡◌, [], IfOk};
-ghost use Rattle.of_datapath.specs.Datapath.{world_of};
-ghost use Rattle.of_datapath.specs.Numbers.{forwarding_of};
-ghost use Rattle.of_diff.specs.declared.pair.Next.TheVariants.{Alike as AllAlike};
-ghost use Rattle.of_alike.specs.Agreeing.{AgreeFrom, GoOnAlike};
-ghost use Rattle.of_alike.specs.Emitting.{LeaveAlike};
-ghost use Rattle.of_diff.specs.Reasons.{AreSettled};
-ghost use Rattle.of_alike.specs.SamePorts.{SamePorts};
-ghost use Rattle.of_diff.specs.SoFar.{NextIs};
+ghost use Rattle.of_datapath.specs.{Datapath.world_of, Numbers.forwarding_of};
+ghost use Rattle.of_diff.specs.{declared.pair.Next.TheVariants.Alike as AllAlike, Reasons.AreSettled, SoFar.NextIs};
+ghost use Rattle.of_alike.specs.{Agreeing.AgreeFrom, Agreeing.GoOnAlike, Emitting.LeaveAlike, SamePorts.SamePorts};
 ghost use Rattle.of_symbolic_run.specs.Received.{AreReceived};
 
 use crate::ending::try_pair;

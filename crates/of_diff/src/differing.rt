@@ -1,19 +1,11 @@
 //! Which frames two switches treat differently.
 ghost use Rattle.std.specs.Prelude.{◌≡◌, ◌≤◌, ◌+◌, ◌++◌, ◌∷◌, [], ℕ, List, IfOk, IfNone, IfSome, OnOk};
-ghost use Rattle.of_datapath.specs.Datapath.{world_of};
-ghost use Rattle.of_datapath.specs.Numbers.{forwarding_of};
+ghost use Rattle.of_datapath.specs.{Datapath.world_of, Numbers.forwarding_of};
 ghost use Rattle.of_machine.specs.TheWorld.{TheWorld};
-ghost use Rattle.of_symbolic_run.specs.FrameSets.{InFrames};
-ghost use Rattle.of_symbolic_run.specs.NextStates.{IsFirstState};
-ghost use Rattle.of_alike.specs.declared.alike.Compared.{Compared as WhatIsCompared};
-ghost use Rattle.of_diff.specs.declared.pair.Pair.{Pair as ThePair};
-ghost use Rattle.of_diff.specs.Comparing.{AreDifferences};
-ghost use Rattle.of_diff.specs.Pairs.{AreStatesOfRuns};
-ghost use Rattle.of_diff.specs.SameSwitches.{IsNothing, AreSameSwitches};
-ghost use Rattle.of_diff.specs.Reasons.{ArePairsAfter};
-ghost use Rattle.of_alike.specs.SamePorts.{SamePorts};
+ghost use Rattle.of_symbolic_run.specs.{FrameSets.InFrames, NextStates.IsFirstState, Received.IsReceivedAt};
+ghost use Rattle.of_alike.specs.{declared.alike.Compared.Compared as WhatIsCompared, SamePorts.SamePorts};
+ghost use Rattle.of_diff.specs.{declared.pair.Pair.Pair as ThePair, Comparing.AreDifferences, Pairs.AreStatesOfRuns, SameSwitches.IsNothing, SameSwitches.AreSameSwitches, Reasons.ArePairsAfter};
 ghost use Rattle.of_diff.specs.SoFar.{IsSoFar, NextIs};
-ghost use Rattle.of_symbolic_run.specs.Received.{IsReceivedAt};
 
 use crate::agreement::{agree_in_all, agreement_of};
 use crate::difference::{Differences, Undecided, Why};

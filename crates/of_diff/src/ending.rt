@@ -1,19 +1,12 @@
 //! What comes of a pair of states if both runs are done, or go on alike.
 ghost use Rattle.std.specs.Prelude.{◌≡◌, ◌≢◌, ◌≤◌, [], ◌∷◌, ℕ, IfOk, length};
 ghost use Rattle.of_rewrite.specs.Frames.{IsFrame};
-ghost use Rattle.of_datapath.specs.Datapath.{world_of};
-ghost use Rattle.of_datapath.specs.Numbers.{forwarding_of};
+ghost use Rattle.of_datapath.specs.{Datapath.world_of, Numbers.forwarding_of};
 ghost use Rattle.of_machine.specs.TheWorld.{TheWorld};
 ghost use Rattle.of_regions.specs.Conditions.{AreConditions};
-ghost use Rattle.of_symbolic_run.specs.FrameSets.{InFrames};
-ghost use Rattle.of_symbolic_run.specs.PortNumbers.{IsReceivingPort};
-ghost use Rattle.of_symbolic_run.specs.Received.{AreReceived};
-ghost use Rattle.of_alike.specs.SamePorts.{SamePorts};
-ghost use Rattle.of_alike.specs.declared.alike.Compared.{Compared as WhatIsCompared};
-ghost use Rattle.of_diff.specs.declared.pair.Pair.{Pair as ThePair};
-ghost use Rattle.of_diff.specs.Reasons.{AreSettled, IsReasonOfPair, SomeIsAlike};
-ghost use Rattle.of_diff.specs.Shown.{IsShown, TriedIs};
-ghost use Rattle.of_diff.specs.SoFar.{NextIs};
+ghost use Rattle.of_symbolic_run.specs.{FrameSets.InFrames, PortNumbers.IsReceivingPort, Received.AreReceived};
+ghost use Rattle.of_alike.specs.{SamePorts.SamePorts, declared.alike.Compared.Compared as WhatIsCompared};
+ghost use Rattle.of_diff.specs.{declared.pair.Pair.Pair as ThePair, Reasons.AreSettled, Reasons.IsReasonOfPair, Reasons.SomeIsAlike, Shown.IsShown, Shown.TriedIs, SoFar.NextIs};
 
 use crate::difference::{Difference, EmittedByBoth, Undecided, Why};
 use crate::pair::{Next, Pair};

@@ -1,15 +1,9 @@
 //! A lookup of the same packet in tables that say the same.
 ghost use Rattle.std.specs.Prelude.{◌≡◌, ◌<◌, IfOk, IfSome, map};
-ghost use Rattle.of_datapath.specs.Datapath.{world_of};
-ghost use Rattle.of_datapath.specs.Numbers.{forwarding_of};
-ghost use Rattle.of_alike.specs.declared.alike.Compared.{Compared};
-ghost use Rattle.of_diff.specs.Changing.{entries_in};
-ghost use Rattle.of_diff.specs.NextPairs.{AreNextPairs};
-ghost use Rattle.of_diff.specs.Pairs.{ArePairs, pair_of_case};
-ghost use Rattle.of_alike.specs.SamePorts.{SamePorts};
-ghost use Rattle.of_alike.specs.SameTables.{SameTables};
-ghost use Rattle.of_symbolic_run.specs.States.{AreTaskCopies, answer_to_tasks};
-ghost use Rattle.of_symbolic_run.specs.declared.advance.Advance.TheVariants.{Lookup as WantsLookup};
+ghost use Rattle.of_datapath.specs.{Datapath.world_of, Numbers.forwarding_of};
+ghost use Rattle.of_alike.specs.{declared.alike.Compared.Compared, SamePorts.SamePorts, SameTables.SameTables};
+ghost use Rattle.of_diff.specs.{Changing.entries_in, NextPairs.AreNextPairs, Pairs.ArePairs, Pairs.pair_of_case};
+ghost use Rattle.of_symbolic_run.specs.{States.AreTaskCopies, States.answer_to_tasks, declared.advance.Advance.TheVariants.Lookup as WantsLookup};
 
 use crate::pair::Pair;
 use of_classifier::Lookup;

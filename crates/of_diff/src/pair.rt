@@ -1,10 +1,8 @@
 //! The states of both runs for some frames, and their steps.
 ghost use Rattle.std.specs.Prelude.{◌≡◌, ◌<◌, ◌∷◌, ℕ, [], IfOk, length};
-ghost use Rattle.of_datapath.specs.Datapath.{world_of};
-ghost use Rattle.of_datapath.specs.Numbers.{forwarding_of};
+ghost use Rattle.of_datapath.specs.{Datapath.world_of, Numbers.forwarding_of};
 ghost use Rattle.of_alike.specs.declared.alike.Compared.{Compared};
-ghost use Rattle.of_diff.specs.Pairs.{AreByFirst, AreBySecond};
-ghost use Rattle.of_diff.specs.SoFar.{NextIs};
+ghost use Rattle.of_diff.specs.{Pairs.AreByFirst, Pairs.AreBySecond, SoFar.NextIs};
 ghost use Rattle.of_machine.specs.TheWorld.{TheWorld};
 
 use crate::difference::{Difference, Undecided, Why};

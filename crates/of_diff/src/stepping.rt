@@ -1,14 +1,9 @@
 //! The steps of a pair of states.
 ghost use Rattle.std.specs.Prelude.{◌≡◌, ℕ, IfOk, IfSome};
-ghost use Rattle.of_datapath.specs.Datapath.{world_of};
-ghost use Rattle.of_datapath.specs.Numbers.{forwarding_of};
-ghost use Rattle.of_diff.specs.Changing.{IsAgreement};
-ghost use Rattle.of_alike.specs.SamePorts.{SamePorts};
-ghost use Rattle.of_diff.specs.SoFar.{NextIs};
-ghost use Rattle.of_symbolic_run.specs.Received.{AreReceived};
-ghost use Rattle.of_alike.specs.declared.alike.Compared.{Compared as WhatIsCompared};
-ghost use Rattle.of_symbolic_run.specs.States.{answer_to_tasks};
-ghost use Rattle.of_symbolic_run.specs.declared.advance.Advance.TheVariants.{Lookup as WantsLookup};
+ghost use Rattle.of_datapath.specs.{Datapath.world_of, Numbers.forwarding_of};
+ghost use Rattle.of_diff.specs.{Changing.IsAgreement, SoFar.NextIs};
+ghost use Rattle.of_alike.specs.{SamePorts.SamePorts, declared.alike.Compared.Compared as WhatIsCompared};
+ghost use Rattle.of_symbolic_run.specs.{Received.AreReceived, States.answer_to_tasks, declared.advance.Advance.TheVariants.Lookup as WantsLookup};
 
 use crate::agreement::Agreement;
 use crate::changing::changed_pairs;

@@ -3,8 +3,7 @@ ghost use Rattle.std.specs.Prelude.{◌≡◌, ◌≢◌, ◌<◌, ℕ, [], leng
 ghost use Rattle.of_diff.specs.declared.turns.Place.TheVariants.{Ended as AtEnd, Table as AtTable};
 ghost use Rattle.of_diff.specs.declared.turns.Turn.TheVariants.{Both as BothAt, Ended as AllEnded, First as FirstTurn, Second as SecondTurn};
 ghost use Rattle.of_diff.specs.Changing.{AreAtTableBefore};
-ghost use Rattle.of_symbolic_run.specs.States.{answer_to, answer_to_tasks, answer_to_works};
-ghost use Rattle.of_symbolic_run.specs.declared.advance.Advance.TheVariants.{Lookup as WantsLookup};
+ghost use Rattle.of_symbolic_run.specs.{States.answer_to, States.answer_to_tasks, States.answer_to_works, declared.advance.Advance.TheVariants.Lookup as WantsLookup};
 
 use of_alike::{are_tasks_from, have_equal_tasks};
 use of_symbolic_run::{SymbolicState, SymbolicTask, Work};

@@ -1,13 +1,8 @@
 -- Regions all of whose packets have some fields.
 use Rattle.std.proofs.Common.{◌≡◌, ◌⊎◌, ◌<◌, ◌+◌, ℕ, true, List, length, get_or, take, Option, sym, subst, inl, inr}
 use Rattle.of_layers.specs.declared.field.Field.{Field}
-use Rattle.of_oxm.specs.declared.match_field.MatchField.{MatchField}
-use Rattle.of_oxm.specs.Relations.{matches_map}
-use Rattle.of_regions.specs.declared.meeting.Meeting.TheVariants.{Whole}
-use Rattle.of_regions.specs.declared.region.Region.{Region}
-use Rattle.of_regions.specs.Meeting.{Meets}
-use Rattle.of_regions.specs.Regions.{InRegion}
-use Rattle.of_regions.specs.Searching.{InSome}
+use Rattle.of_oxm.specs.{declared.match_field.MatchField.MatchField, Relations.matches_map}
+use Rattle.of_regions.specs.{declared.meeting.Meeting.TheVariants.Whole, declared.region.Region.Region, Meeting.Meets, Regions.InRegion, Searching.InSome}
 use Rattle.of_symbolic.proofs.PartLemmas.{first_or_next}
 
 abbrev pub AreWhole : List MatchField → List Region → Type 0

@@ -1,13 +1,11 @@
 -- Differences that are told one after the other.
 use Rattle.std.proofs.Common.{◌≡◌, ◌∙◌, ◌⊎◌, ◌<◌, ◌+◌, ℕ, false, true, List, [], ◌∷◌, length, get_or, set, take, Some, ap, refl, sym, subst, inl, inr}
-use Rattle.std.specs.Prelude.{slice_get}
-use Rattle.std.proofs.lemmas.Option.{slice_get-get_or, slice_get_within}
-use Rattle.std.specs.List.{Contains}
+use Rattle.std.{specs.Prelude.slice_get, specs.List.Contains, proofs.lemmas.Option.slice_get-get_or, proofs.lemmas.Option.slice_get_within}
 use Rattle.of_datapath.specs.Datapath.{Forwarding}
 use Rattle.of_symbolic.proofs.PartLemmas.{first_or_next}
 use Rattle.of_diff.specs.declared.difference.Difference.{Difference}
-use Rattle.of_diff_report.specs.declared.telling.Told.{Told}
 use Rattle.of_diff_report.specs.Telling.{IsJoined, IsTold, PutsTold, PutsAllTold, is_of_kind, joined}
+use Rattle.of_diff_report.specs.declared.telling.Told.{Told}
 
 -- none of these is of the kind
 abbrev pub AreOthers : Told → List Told → Type 0

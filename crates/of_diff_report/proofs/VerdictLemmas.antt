@@ -1,20 +1,14 @@
 -- What a verdict means.
 use Rattle.std.proofs.Common.{◌≡◌, ℕ, suc, ◌==◌, false, ◌⊎◌, inl, inr, List, [], ◌∷◌, length, refl, subst, arith}
-use Rattle.std.proofs.lemmas.Bool.Decides.{nat_tests}
 use Rattle.std.specs.Prelude.{Bool, true, Option, Some, None, if◌then◌else◌}
-use Rattle.std.specs.List.{Contains}
+use Rattle.std.{specs.List.Contains, proofs.lemmas.Bool.Decides.nat_tests}
 use Rattle.of_datapath.specs.Datapath.{Forwarding, world_of}
-use Rattle.of_diff.specs.Comparing.{AreDifferences}
-use Rattle.of_diff.specs.Differences.{InDifferences, InUndecided}
-use Rattle.of_diff.specs.SameSwitches.{IsNothing}
+use Rattle.of_diff.specs.{Comparing.AreDifferences, Differences.InDifferences, Differences.InUndecided, SameSwitches.IsNothing, declared.difference.Difference.Difference}
+use Rattle.of_diff.specs.{declared.difference.Differences.Differences, declared.difference.Undecided.Undecided}
 use Rattle.of_alike.specs.declared.alike.Compared.{Compared}
-use Rattle.of_diff.specs.declared.difference.Difference.{Difference}
-use Rattle.of_diff.specs.declared.difference.Differences.{Differences}
-use Rattle.of_diff.specs.declared.difference.Undecided.{Undecided}
 use Rattle.of_diff_report.specs.declared.reserved.Limits.{Limits}
 use Rattle.of_diff_report.specs.declared.writing.DiffVerdict.TheVariants.{Differs, Same, Undecided as Open}
-use Rattle.of_diff_report.specs.DiffFiles.{AreFoundBetween, IsVerdict, diff_verdict, verdict_on}
-use Rattle.of_diff_report.specs.DiffWords.{is_reserved}
+use Rattle.of_diff_report.specs.{DiffFiles.AreFoundBetween, DiffFiles.IsVerdict, DiffFiles.diff_verdict, DiffFiles.verdict_on, DiffWords.is_reserved}
 
 nothing_in : {A : Type 0} (x : A) → Contains [] x → ⊥
 nothing_in x at = omega (arith, at.1)

@@ -2,14 +2,11 @@
 use Rattle.std.specs.Prelude.{◌≡◌, ◌↔◌, ℕ, ◌==◌, ◌<◌, ◌&&◌, Bool, true, false, List, [], ◌∷◌, map, slice_get, Some, if◌then◌else◌}
 use Rattle.std.specs.List.{All, Contains, flat_map}
 use Rattle.of_table.specs.Table.{FlowEntry}
-use Rattle.of_datapath.specs.Datapath.{Forwarding}
-use Rattle.of_datapath.specs.DryRun.{steps_in}
-use Rattle.of_json.specs.declared.hits.Hit.{Hit}
-use Rattle.of_json.specs.Hits.{hits_at}
+use Rattle.of_datapath.specs.{Datapath.Forwarding, DryRun.steps_in}
+use Rattle.of_json.specs.{declared.hits.Hit.Hit, Hits.hits_at}
 use Rattle.of_alike.specs.SameTables.{says_of}
 use Rattle.of_diff.specs.Changing.{entries_in}
-use Rattle.of_diff_report.specs.declared.hits.MarkedHit.{MarkedHit}
-use Rattle.of_diff_report.specs.declared.hits.SideHits.{SideHits}
+use Rattle.of_diff_report.specs.{declared.hits.MarkedHit.MarkedHit, declared.hits.SideHits.SideHits}
 
 abbrev pub hits_in : ℕ → List ℕ → Forwarding → List Hit
 hits_in port frame f = flat_map hits_at (steps_in port frame f)

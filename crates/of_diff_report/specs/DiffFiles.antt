@@ -1,27 +1,16 @@
 -- WHAT `diff` WRITES ABOUT TWO SWITCHES, and whether they treat all frames alike.
 use Rattle.std.specs.Prelude.{◌≡◌, ◌≢◌, ℕ, ◌==◌, List, length, Option, Some, None, Result, Ok, Err, if◌then◌else◌}
 use Rattle.of_datapath.specs.Datapath.{Forwarding, world_of}
-use Rattle.of_replay.specs.declared.event_file.Ended.{Ended}
-use Rattle.of_replay.specs.declared.event_file.Ended.TheVariants.{Done}
+use Rattle.of_replay.specs.{declared.event_file.Ended.Ended, declared.event_file.Ended.TheVariants.Done}
 use Rattle.of_symbolic_run.specs.Received.{IsReceivedAt}
-use Rattle.of_diff.specs.Comparing.{AreDifferences}
-use Rattle.of_diff.specs.Differences.{IsDifference, IsTreatedAlike}
-use Rattle.of_diff.specs.SameSwitches.{AreSameSwitches, IsNothing}
-use Rattle.of_alike.specs.SamePorts.{SamePorts}
-use Rattle.of_alike.specs.declared.alike.Compared.{Compared}
-use Rattle.of_diff.specs.declared.difference.Difference.{Difference}
-use Rattle.of_diff.specs.declared.difference.Differences.{Differences}
-use Rattle.of_diff_report.specs.declared.hits.FileFlows.{FileFlows}
-use Rattle.of_diff_report.specs.declared.reserved.Limits.{Limits}
-use Rattle.of_diff_report.specs.declared.writing.DiffForm.{DiffForm}
-use Rattle.of_diff_report.specs.declared.writing.DiffForm.TheVariants.{Json, Words}
-use Rattle.of_diff_report.specs.declared.writing.DiffVerdict.{DiffVerdict}
+use Rattle.of_diff.specs.{Comparing.AreDifferences, Differences.IsDifference, Differences.IsTreatedAlike, SameSwitches.AreSameSwitches, SameSwitches.IsNothing}
+use Rattle.of_diff.specs.{declared.difference.Difference.Difference, declared.difference.Differences.Differences}
+use Rattle.of_alike.specs.{SamePorts.SamePorts, declared.alike.Compared.Compared}
+use Rattle.of_diff_report.specs.{declared.hits.FileFlows.FileFlows, declared.reserved.Limits.Limits, declared.writing.DiffForm.DiffForm}
+use Rattle.of_diff_report.specs.{declared.writing.DiffForm.TheVariants.Json, declared.writing.DiffForm.TheVariants.Words, declared.writing.DiffVerdict.DiffVerdict}
 use Rattle.of_diff_report.specs.declared.writing.DiffVerdict.TheVariants.{Differs, OtherPorts, Same, Undecided}
-use Rattle.of_diff_report.specs.DiffWords.{are_same_with, diff_words, other_ports_words}
-use Rattle.of_diff_report.specs.declared.telling.Told.{Told}
-use Rattle.of_diff_report.specs.declared.telling.ToldUndecided.{ToldUndecided}
-use Rattle.of_diff_report.specs.DiffJson.{diff_json, other_ports_json}
-use Rattle.of_diff_report.specs.Telling.{AreTold, AreToldUndecided}
+use Rattle.of_diff_report.specs.{DiffWords.are_same_with, DiffWords.diff_words, DiffWords.other_ports_words, declared.telling.Told.Told, declared.telling.ToldUndecided.ToldUndecided}
+use Rattle.of_diff_report.specs.{DiffJson.diff_json, DiffJson.other_ports_json, Telling.AreTold, Telling.AreToldUndecided}
 
 -- none if their ports differ, else the differences, and for all other frames that they are treated alike or undecided
 abbrev pub AreAllBetween : Compared → ℕ → Forwarding → Forwarding → Option Differences → Type 0

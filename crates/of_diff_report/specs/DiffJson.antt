@@ -4,25 +4,14 @@ use Rattle.std.specs.Borrow.{Bor}
 use Rattle.hex.specs.Hex.{encode_lower}
 use Rattle.of_values.specs.Filled.{filled}
 use Rattle.of_json.specs.Parts.{document_head, listed, number_member, quoted, text_member, truth}
-use Rattle.of_json.specs.Strings.{array_member, string, string_member}
-use Rattle.of_alike.specs.declared.alike.Where.{Where}
-use Rattle.of_alike.specs.declared.alike.Where.TheVariants.{Controller, Port as ByPort}
-use Rattle.of_diff.specs.declared.difference.Difference.{Difference}
-use Rattle.of_diff.specs.declared.difference.Differences.{Differences}
-use Rattle.of_diff.specs.declared.difference.Why.{Why}
+use Rattle.of_json.specs.{Strings.array_member, Strings.string, Strings.string_member, LeavingJson.items_member, ChangesInJson.changes_member}
+use Rattle.of_alike.specs.{declared.alike.Where.Where, declared.alike.Where.TheVariants.Controller, declared.alike.Where.TheVariants.Port as ByPort}
+use Rattle.of_diff.specs.{declared.difference.Difference.Difference, declared.difference.Differences.Differences, declared.difference.Why.Why}
 use Rattle.of_diff.specs.declared.difference.Why.TheVariants.{OtherActions, Search, Steps, UnknownTag}
-use Rattle.of_json.specs.LeavingJson.{items_member}
-use Rattle.of_json.specs.ChangesInJson.{changes_member}
-use Rattle.of_diff_report.specs.declared.hits.FileFlows.{FileFlows}
-use Rattle.of_diff_report.specs.declared.hits.SideHits.{SideHits}
-use Rattle.of_diff_report.specs.declared.json.TheConstants as line
-use Rattle.of_diff_report.specs.declared.region.DescribedSet.{DescribedSet}
-use Rattle.of_diff_report.specs.declared.reserved.Limits.{Limits}
-use Rattle.of_diff_report.specs.declared.telling.Told.{Told}
-use Rattle.of_diff_report.specs.declared.telling.ToldUndecided.{ToldUndecided}
-use Rattle.of_diff_report.specs.EntryHits.{changed_member, hit_entries_member}
-use Rattle.of_diff_report.specs.DiffWords.{are_same_with}
+use Rattle.of_diff_report.specs.{declared.hits.FileFlows.FileFlows, declared.hits.SideHits.SideHits, declared.region.DescribedSet.DescribedSet, declared.reserved.Limits.Limits}
+use Rattle.of_diff_report.specs.{declared.telling.Told.Told, declared.telling.ToldUndecided.ToldUndecided, EntryHits.changed_member, EntryHits.hit_entries_member, DiffWords.are_same_with}
 use Rattle.of_diff_report.specs.RegionWords.{count_of_entries, region_words}
+use Rattle.of_diff_report.specs.declared.json.TheConstants as line
 
 -- ---- a difference
 

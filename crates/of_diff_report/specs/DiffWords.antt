@@ -1,36 +1,23 @@
 -- THE REPORT OF `diff` IN WORDS: a line for each port that is named and missing, a block for the differences of the same changed entries, a line for each reason why frames are
 -- undecided with the regions of some of them, and a summary. Differences of frames whose TTL expires are counted in one line, unless all are of such frames.
 use Rattle.std.specs.Prelude.{ℕ, ◌-◌, ◌==◌, ◌||◌, ◌&&◌, nat_lt, Bool, true, false, not, List, [], ◌∷◌, ◌++◌, length, filter, codes, decimal, Option, Some, None, if◌then◌else◌}
-use Rattle.std.specs.Borrow.{Bor}
-use Rattle.std.specs.List.{flat_map, list_all, list_any}
+use Rattle.std.specs.{Borrow.Bor, List.flat_map, List.list_all, List.list_any}
 use Rattle.hex.specs.Hex.{encode_lower}
 use Rattle.of_text.specs.Lines.{ended}
 use Rattle.of_values.specs.Filled.{filled}
 use Rattle.of_wire.specs.declared.reasons.PacketInReason.{PacketInReason}
 use Rattle.of_wire.specs.declared.reasons.PacketInReason.TheVariants as reasons
-use Rattle.of_machine.specs.declared.data.Item.{Item}
-use Rattle.of_machine.specs.declared.data.Item.TheVariants.{PacketIn, Sent}
+use Rattle.of_machine.specs.{declared.data.Item.Item, declared.data.Item.TheVariants.PacketIn, declared.data.Item.TheVariants.Sent}
 use Rattle.of_datapath.specs.Datapath.{Forwarding}
 use Rattle.of_trace.specs.Words.{heading}
-use Rattle.of_json.specs.LeavingWords.{frame_lines}
-use Rattle.of_json.specs.UndecidedWords.{undecided_count, undecided_sets}
-use Rattle.of_json.specs.ChangesInWords.{changed_side_words}
-use Rattle.of_alike.specs.declared.alike.Compared.{Compared}
-use Rattle.of_alike.specs.declared.alike.Compared.TheVariants.{All, Frames}
-use Rattle.of_alike.specs.declared.alike.Where.{Where}
+use Rattle.of_json.specs.{LeavingWords.frame_lines, UndecidedWords.undecided_count, UndecidedWords.undecided_sets, ChangesInWords.changed_side_words}
+use Rattle.of_alike.specs.{declared.alike.Compared.Compared, declared.alike.Compared.TheVariants.All, declared.alike.Compared.TheVariants.Frames, declared.alike.Where.Where}
 use Rattle.of_alike.specs.declared.alike.Where.TheVariants.{Controller, Port as ByPort}
-use Rattle.of_diff.specs.declared.difference.Difference.{Difference}
-use Rattle.of_diff.specs.declared.difference.Differences.{Differences}
-use Rattle.of_diff.specs.declared.difference.Why.{Why}
+use Rattle.of_diff.specs.{declared.difference.Difference.Difference, declared.difference.Differences.Differences, declared.difference.Why.Why}
 use Rattle.of_diff.specs.declared.difference.Why.TheVariants.{OtherActions, Search, Steps, UnknownTag}
-use Rattle.of_diff_report.specs.declared.hits.FileFlows.{FileFlows}
-use Rattle.of_diff_report.specs.declared.reserved.Limits.{Limits}
-use Rattle.of_diff_report.specs.declared.hits.MarkedHit.{MarkedHit}
-use Rattle.of_diff_report.specs.declared.telling.Told.{Told}
-use Rattle.of_diff_report.specs.declared.telling.ToldUndecided.{ToldUndecided}
+use Rattle.of_diff_report.specs.{declared.hits.FileFlows.FileFlows, declared.reserved.Limits.Limits, declared.hits.MarkedHit.MarkedHit, declared.telling.Told.Told}
+use Rattle.of_diff_report.specs.{declared.telling.ToldUndecided.ToldUndecided, EntryHits.hit_lines, RegionWords.region_line}
 use Rattle.of_diff_report.specs.declared.words.TheConstants as line
-use Rattle.of_diff_report.specs.EntryHits.{hit_lines}
-use Rattle.of_diff_report.specs.RegionWords.{region_line}
 
 -- ---- ports that groups or flows of the files name, and that the switches do not have
 

@@ -1,13 +1,10 @@
 -- THE ENTRIES THAT A FRAME HITS at one of the two switches, as `check` names entries, and which of them changed.
 use Rattle.std.specs.Prelude.{ℕ, List, ◌∷◌, [], ◌++◌, codes, if◌then◌else◌}
 use Rattle.std.specs.List.{flat_map}
-use Rattle.of_json.specs.Parts.{listed, truth}
-use Rattle.of_json.specs.Strings.{array_member}
-use Rattle.of_report.specs.Entries.{entry}
-use Rattle.of_report.specs.Json.{entry_object}
+use Rattle.of_json.specs.{Parts.listed, Parts.truth, Strings.array_member}
+use Rattle.of_report.specs.{Entries.entry, Json.entry_object}
 use Rattle.of_values.specs.Origins.{view_origins}
-use Rattle.of_diff_report.specs.declared.hits.FileFlows.{FileFlows}
-use Rattle.of_diff_report.specs.declared.hits.MarkedHit.{MarkedHit}
+use Rattle.of_diff_report.specs.{declared.hits.FileFlows.FileFlows, declared.hits.MarkedHit.MarkedHit}
 
 -- `    first: hits table 0 entry 1 (line 3, priority 20, eth_type 0x0800), changed`
 unfoldable pub hit_line : List ℕ → FileFlows → MarkedHit → List ℕ

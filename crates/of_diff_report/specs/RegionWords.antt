@@ -1,18 +1,14 @@
 -- THE REGION OF A SET OF FRAMES: what all its frames have in common, in words that `paths --match` takes (ovs-fields(7)). The set may have fewer frames.
 use Rattle.std.specs.Prelude.{◌≡◌, ℕ, ◌/◌, ◌%◌, ◌==◌, ◌&&◌, Bool, true, not, is_some, List, [], ◌∷◌, ◌++◌, length, filter, decimal, Option, Some, None, Ok, unwrap_or, if◌then◌else◌}
-use Rattle.std.specs.Global.{Vec}
-use Rattle.std.specs.List.{list_all, list_any}
-use Rattle.of_layers.specs.declared.field.Field.TheVariants.{InPort, Metadata}
-use Rattle.of_layers.specs.Fields.{number_of}
+use Rattle.std.specs.{Global.Vec, List.list_all, List.list_any}
+use Rattle.of_layers.specs.{declared.field.Field.TheVariants.InPort, declared.field.Field.TheVariants.Metadata, Fields.number_of}
 use Rattle.of_headers.specs.FieldMap.{value}
-use Rattle.of_oxm.specs.declared.match_field.MatchField.{MatchField}
-use Rattle.of_oxm.specs.Relations.{matches_map}
+use Rattle.of_oxm.specs.{declared.match_field.MatchField.MatchField, Relations.matches_map}
 use Rattle.of_values.specs.Filled.{filled}
 use Rattle.of_frame_words.specs.Conditions.{conditions_in_words}
 use Rattle.of_regions.specs.declared.region.Region.{Region}
 use Rattle.of_symbolic.specs.Parts.{received_fields}
-use Rattle.of_symbolic_run.specs.declared.frame_set.FrameSet.{FrameSet}
-use Rattle.of_symbolic_run.specs.FrameSets.{InFrames}
+use Rattle.of_symbolic_run.specs.{declared.frame_set.FrameSet.FrameSet, FrameSets.InFrames}
 use Rattle.of_diff_report.specs.declared.region.DescribedSet.{DescribedSet}
 use Rattle.of_diff_report.specs.declared.region.TheConstants as line
 

@@ -1,13 +1,9 @@
 -- DIFFERENCES AS THEY ARE TOLD: each with the entries that its frame hits at both switches; those whose frames hit the same changed entries are told as one.
 use Rattle.std.specs.Prelude.{◌≡◌, ℕ, ◌==◌, ◌&&◌, ◌++◌, Bool, false, true, not, List, [], ◌∷◌, length, map, Option, Some, slice_get, slice_set}
-use Rattle.std.specs.Borrow.{Bor}
-use Rattle.std.specs.List.{AllByRecursion, Contains}
+use Rattle.std.specs.{Borrow.Bor, List.AllByRecursion, List.Contains}
 use Rattle.of_datapath.specs.Datapath.{Forwarding}
-use Rattle.of_diff.specs.declared.difference.Difference.{Difference}
-use Rattle.of_diff.specs.declared.difference.Undecided.{Undecided}
-use Rattle.of_diff_report.specs.declared.telling.Told.{Told}
-use Rattle.of_diff_report.specs.declared.telling.ToldUndecided.{ToldUndecided}
-use Rattle.of_diff_report.specs.Changed.{AreSideHits, are_same_hits}
+use Rattle.of_diff.specs.{declared.difference.Difference.Difference, declared.difference.Undecided.Undecided}
+use Rattle.of_diff_report.specs.{declared.telling.Told.Told, declared.telling.ToldUndecided.ToldUndecided, Changed.AreSideHits, Changed.are_same_hits}
 use Rattle.of_diff_report.specs.RegionWords.{IsRegionOfSet, IsRegionOf}
 
 -- ---- one difference

@@ -1,8 +1,6 @@
 //! What is found about two switches, as JSON.
 ghost use Rattle.std.specs.Prelude.{◌≡◌, ◌++◌, codes, IfOk, OnOk};
-ghost use Rattle.of_json.specs.ChangesInJson.{changes_member};
-ghost use Rattle.of_json.specs.Parts.{listed};
-ghost use Rattle.of_json.specs.Strings.{array_member};
+ghost use Rattle.of_json.specs.{ChangesInJson.changes_member, Parts.listed, Strings.array_member};
 ghost use Rattle.of_diff_report.specs.DiffJson.{also_member, also_object, begin_at, both_hits_members, diff_head, diff_json, difference_members, difference_object, differences_member, limits_member, other_ports_json, region_members, region_string, regions_member, same_in_json, side_hits_members, undecided_member, undecided_string, why_name};
 
 use crate::hits::{DiffSide, FileFlows, SideHits, push_changed_member, push_hits_member};

@@ -3,9 +3,7 @@ ghost use Rattle.std.specs.Prelude.{◌≡◌, ℕ, ◌++◌, Option, IfOk, OnOk
 ghost use Rattle.std.specs.List.{list_all};
 ghost use Rattle.of_layers.specs.declared.field.Field.{Field as TheField};
 ghost use Rattle.of_oxm.specs.Relations.{matches_map};
-ghost use Rattle.of_regions.specs.declared.meeting.Meeting.TheVariants.{Whole};
-ghost use Rattle.of_regions.specs.Meeting.{Meets};
-ghost use Rattle.of_regions.specs.Searching.{InSome};
+ghost use Rattle.of_regions.specs.{declared.meeting.Meeting.TheVariants.Whole, Meeting.Meets, Searching.InSome};
 ghost use Rattle.of_diff_report.specs.RegionWords.{IsRegionOfSet, IsRegionOf, IsTrueOf, count_of_entries, inner_part, is_inner_region, is_of_entry as is_of_entry_by, is_port_block as is_port_block_by, lacks_part, region_line, region_words, ttl_range_part, words_said};
 
 use of_frame_words::{NoFrame, read_conditions};

@@ -1,8 +1,8 @@
 //! Differences as they are told: those of the same changed entries are told as one.
 ghost use Rattle.std.specs.Prelude.{◌≡◌, IfNone, IfOk, IfSome, OnOk, List, Some, map, slice_get, true, false};
 ghost use Rattle.std.specs.List.{AllByRecursion, Contains};
-ghost use Rattle.of_diff_report.specs.declared.telling.Told.{Told as TheTold};
 ghost use Rattle.of_diff_report.specs.Telling.{AreTold, HasRegion, IsTold, PutsTold, has_changed as has_changed_hits, is_of_kind as is_of_kind_by, set_of};
+ghost use Rattle.of_diff_report.specs.declared.telling.Told.{Told as TheTold};
 
 use crate::hits::{DiffSide, SideHits, are_same_hits, side_hits};
 use crate::region::{DescribedSet, describe, describe_first};

@@ -3,8 +3,7 @@ ghost use Rattle.std.specs.Prelude.{◌≡◌, ◌<◌, ◌↔◌, ℕ, List, Op
 ghost use Rattle.of_datapath.specs.Datapath.{Forwarding, world_of};
 ghost use Rattle.of_replay.specs.FileRuns.{Writes, ended_as};
 ghost use Rattle.of_symbolic_run.specs.Received.{IsReceivedAt};
-ghost use Rattle.of_diff.specs.Differences.{IsDifference, IsTreatedAlike};
-ghost use Rattle.of_diff.specs.SameSwitches.{AreSameSwitches, IsNothing};
+ghost use Rattle.of_diff.specs.{Differences.IsDifference, Differences.IsTreatedAlike, SameSwitches.AreSameSwitches, SameSwitches.IsNothing};
 ghost use Rattle.of_alike.specs.declared.alike.Compared.{Compared as WhatIsCompared};
 ghost use Rattle.of_diff_report.specs.DiffFiles.{AreFoundBetween, IsDiffReport, IsTextFound, IsVerdict, diff_verdict, verdict_on};
 ghost use Rattle.of_diff_report.specs.DiffWords.{other_limits};

@@ -1,11 +1,8 @@
 -- Rows in words, line by line and byte by byte.
 use Rattle.std.proofs.Common.{◌≡◌, ◌∙◌, ℕ, Bool, true, false, List, [], ◌∷◌, ◌++◌, ◌+◌, ◌<◌, add-one, ap, get_or, length, refl, sym, subst, take, append_assoc, eqb}
-use Rattle.std.specs.Prelude.{◌&&◌, if◌then◌else◌}
-use Rattle.std.proofs.lemmas.List.{append-nil}
-use Rattle.std.proofs.Math.Seq.{take-suc}
+use Rattle.std.{specs.Prelude.◌&&◌, specs.Prelude.if◌then◌else◌, proofs.lemmas.List.append-nil, proofs.Math.Seq.take-suc}
 use Rattle.of_text.specs.Lines.{ended}
-use Rattle.of_replay.specs.Lexing.{last_from, whole_lines}
-use Rattle.of_replay.proofs.Cutting.{last_join, whole_join}
+use Rattle.of_replay.{specs.Lexing.last_from, specs.Lexing.whole_lines, proofs.Cutting.last_join, proofs.Cutting.whole_join}
 use Rattle.of_explain.specs.Folding.{Fold, IsFolded, folded_lines, folded_text, held_line, is_moment}
 
 -- LINE BY LINE

@@ -1,9 +1,7 @@
 -- The rows of a reply, one by one.
 use Rattle.std.proofs.Common.{◌≡◌, ℕ, zero, suc, ◌≤◌, ◌<◌, Bool, true, false, List, [], ◌∷◌, ◌++◌, length, take, drop, refl, sym, ◌∙◌, ap, arith, append_assoc, length-drop}
 use Rattle.std.specs.Prelude.{nat_le, Option, Some, None, if◌then◌else◌}
-use Rattle.std.specs.List.{flat_map}
-use Rattle.std.proofs.lemmas.List.{append-nil}
-use Rattle.std.proofs.lemmas.Bool.Decides.{nat_tests}
+use Rattle.std.{specs.List.flat_map, proofs.lemmas.List.append-nil, proofs.lemmas.Bool.Decides.nat_tests}
 use Rattle.of_explain.specs.Replies.{within, front_row, length_by, and_rows, first_rows, rows_of_reply, reply_row}
 use Rattle.of_explain.specs.Fields.{big_number_at}
 

@@ -3,10 +3,8 @@ use Rattle.std.proofs.Common.{◌≡◌, ℕ, List, ◌++◌, Result, Ok, Err, s
 use Rattle.std.specs.Prelude.{◌⊎◌, Option, OnOk}
 use Rattle.smallvec.specs.SmallVec.{SmallVec}
 use Rattle.of_datapath.specs.declared.effect.Effect.{Effect}
-use Rattle.of_switch.specs.declared.switch_error.SwitchError.{SwitchError}
+use Rattle.of_switch.specs.{declared.switch_error.SwitchError.SwitchError, Runs.Report, Runs.Gives, Runs.IsRefused, declared.event.Event.Event}
 use Rattle.of_switch.specs.declared.switch_error.SwitchError.TheVariants as error
-use Rattle.of_switch.specs.Runs.{Report, Gives, IsRefused}
-use Rattle.of_switch.specs.declared.event.Event.{Event}
 use Rattle.of_replay.specs.Stepping.{IsReport}
 use Rattle.of_explain.specs.Explained.{TellsReport, report_notes}
 

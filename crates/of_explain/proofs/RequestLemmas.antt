@@ -1,13 +1,9 @@
 -- The messages of a stream are those into which it splits.
 use Rattle.std.proofs.Common.{◌≡◌, ℕ, zero, suc, ◌<◌, ◌≤◌, ◌⊎◌, inl, inr, List, [], ◌∷◌, ◌++◌, length, take, drop, Result, Ok, Err, refl, sym, ◌∙◌, ap, subst, arith, append_assoc, length-append, length-drop, length-take-le, ◌+◌}
-use Rattle.std.specs.Prelude.{OnOk}
-use Rattle.std.specs.List.{flat_map}
-use Rattle.std.proofs.lemmas.List.{append-nil}
-use Rattle.of_session.specs.declared.stream.Beginning.{Beginning}
-use Rattle.of_session.specs.declared.stream.Beginning.TheVariants as front
+use Rattle.std.{specs.Prelude.OnOk, specs.List.flat_map, proofs.lemmas.List.append-nil}
 use Rattle.of_session.specs.Stream.{First, Whole, Bad, Partial, beginning_of, beginning_is, IsWholeMessage, IsMalformed, IsPartial, concat, AreMessages, Splits}
-use Rattle.of_session.proofs.Fronts.{message_front, malformed_front, partial_front}
-use Rattle.of_session.proofs.Splitting.{splits_some}
+use Rattle.of_session.{specs.declared.stream.Beginning.Beginning, proofs.Fronts.message_front, proofs.Fronts.malformed_front, proofs.Fronts.partial_front, proofs.Splitting.splits_some}
+use Rattle.of_session.specs.declared.stream.Beginning.TheVariants as front
 use Rattle.of_explain.specs.Requests.{and_others, first_messages, messages_in_bytes}
 
 -- ---- what a stream splits into

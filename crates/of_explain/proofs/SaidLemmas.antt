@@ -1,20 +1,10 @@
 -- The lines of flow text that a message has are within their bounds.
 use Rattle.std.proofs.Common.{true, List, [], ◌∷◌, ◌++◌, length, refl, arith}
-use Rattle.std.specs.Prelude.{map, nat_le, IsTrue}
-use Rattle.std.specs.List.{AllByRecursion, flat_map, list_all}
-use Rattle.std.proofs.lemmas.Bool.{and_parts}
-use Rattle.of_oxm.specs.declared.match_field.MatchField.{MatchField}
-use Rattle.of_oxm.specs.NormalForm.{IsMatch}
-use Rattle.of_actions.specs.declared.action.Action.{Action}
-use Rattle.of_actions.specs.declared.instruction.Instruction.{Instruction}
-use Rattle.of_actions.specs.InstructionLists.{are_kept}
-use Rattle.of_actions.specs.Supported.{is_supported, are_supported}
+use Rattle.std.{specs.Prelude.map, specs.Prelude.nat_le, specs.Prelude.IsTrue, specs.List.AllByRecursion, specs.List.flat_map, specs.List.list_all, proofs.lemmas.Bool.and_parts}
+use Rattle.of_oxm.specs.{declared.match_field.MatchField.MatchField, NormalForm.IsMatch}
+use Rattle.of_actions.specs.{declared.action.Action.Action, declared.instruction.Instruction.Instruction, InstructionLists.are_kept, Supported.is_supported, Supported.are_supported}
 use Rattle.of_lines.specs.declared.row.Row.TheVariants as rows
-use Rattle.of_text.specs.Rows.{Fits}
-use Rattle.of_text.specs.Flows.{Flow, instruction_rows}
-use Rattle.of_text.specs.Kept.{IsKeptFlow}
-use Rattle.of_text.proofs.KeptLemmas.{actions_fit, flows_fit}
-use Rattle.of_text.proofs.TextLemmas.{all_front}
+use Rattle.of_text.{specs.Rows.Fits, specs.Flows.Flow, specs.Flows.instruction_rows, specs.Kept.IsKeptFlow, proofs.KeptLemmas.actions_fit, proofs.KeptLemmas.flows_fit, proofs.TextLemmas.all_front}
 
 -- of a match and of instructions that a table may keep
 pub flow_lines_fit : (fields : List MatchField) (is : List Instruction) → IsMatch fields → IsTrue (are_kept is) → AllByRecursion Fits (map rows.Match fields ++ flat_map instruction_rows is)

@@ -2,29 +2,17 @@
 use Rattle.std.specs.Prelude.{◌≡◌, ◌≢◌, ℕ, List, [], ◌∷◌, ◌++◌, codes, decimal, Option, Some, None, Result, Ok, Err, if◌then◌else◌}
 use Rattle.std.specs.List.{flat_map}
 use Rattle.smallvec.specs.SmallVec.{SmallVec}
-use Rattle.of_headers.specs.declared.headers.FrameFault.{FrameFault}
-use Rattle.of_headers.specs.Faults.{frame_fault}
-use Rattle.of_ports.specs.declared.port.Port.{Port}
-use Rattle.of_ports.specs.Ports.{is_live, may_receive, port_at}
-use Rattle.of_machine.specs.declared.data.Step.{Step}
-use Rattle.of_machine.specs.declared.data.Step.TheVariants.{Miss, Entry, TtlExpired}
-use Rattle.of_datapath.specs.declared.effect.Effect.{Effect}
-use Rattle.of_datapath.specs.declared.effect.Effect.TheVariants.{Answer, Sent, Closed}
-use Rattle.of_switch.specs.declared.switch_error.SwitchError.{SwitchError}
-use Rattle.of_switch.specs.declared.switch_error.SwitchError.TheVariants as refusals
-use Rattle.of_datapath.specs.DryRun.{steps_in}
-use Rattle.of_datapath.specs.Datapath.{Forwarding}
-use Rattle.of_switch.specs.State.{State}
-use Rattle.of_switch.specs.Steps.{frame_in}
-use Rattle.of_switch.specs.Runs.{Report, Gives, IsRefused}
-use Rattle.of_switch.specs.declared.event.Event.{Event}
+use Rattle.of_headers.specs.{declared.headers.FrameFault.FrameFault, Faults.frame_fault}
+use Rattle.of_ports.specs.{declared.port.Port.Port, Ports.is_live, Ports.may_receive, Ports.port_at}
+use Rattle.of_machine.specs.{declared.data.Step.Step, declared.data.Step.TheVariants.Miss, declared.data.Step.TheVariants.Entry, declared.data.Step.TheVariants.TtlExpired}
+use Rattle.of_datapath.specs.{declared.effect.Effect.Effect, declared.effect.Effect.TheVariants.Answer, declared.effect.Effect.TheVariants.Sent, declared.effect.Effect.TheVariants.Closed}
+use Rattle.of_datapath.specs.{DryRun.steps_in, Datapath.Forwarding}
+use Rattle.of_switch.specs.{declared.switch_error.SwitchError.SwitchError, State.State, Steps.frame_in, Runs.Report, Runs.Gives, Runs.IsRefused, declared.event.Event.Event}
 use Rattle.of_switch.specs.declared.event.Event.TheVariants.{Chunk, Frame}
+use Rattle.of_switch.specs.declared.switch_error.SwitchError.TheVariants as refusals
 use Rattle.of_replay.specs.RowTexts.{RowText, row_happened}
 use Rattle.of_text.specs.Lines.{ended, note}
-use Rattle.of_explain.specs.Notes.{number_note, port_and_size, with_number}
-use Rattle.of_explain.specs.Messages.{message_words}
-use Rattle.of_explain.specs.Replies.{answer_lines}
-use Rattle.of_explain.specs.Requests.{chunk_notes}
+use Rattle.of_explain.specs.{Notes.number_note, Notes.port_and_size, Notes.with_number, Messages.message_words, Replies.answer_lines, Requests.chunk_notes}
 
 -- a line as in the file, behind its number; an empty one is left out
 abbrev pub echoed : ℕ → List ℕ → List ℕ

@@ -6,11 +6,8 @@ use Rattle.byteorder.specs.Endian.{big_number}
 use Rattle.hex.specs.Hex.{encode_lower}
 use Rattle.of_wire.specs.declared.limits.TheConstants.{OFPP_ANY}
 use Rattle.of_formats.specs.Structs.{Struct, byte, number, plain, pad}
-use Rattle.of_explain.specs.declared.fields.Field.{Field as Row}
-use Rattle.of_explain.specs.declared.fields.Form.{Form}
 use Rattle.of_explain.specs.declared.fields.Form.TheVariants.{Plainly, Named, InHex, UnlessAny, UnlessZero}
-use Rattle.of_explain.specs.declared.names.Names.{Names}
-use Rattle.of_explain.specs.Names.{name_in}
+use Rattle.of_explain.specs.{declared.fields.Field.Field as Row, declared.fields.Form.Form, declared.names.Names.Names, Names.name_in}
 
 -- ---- the forms
 

@@ -1,7 +1,6 @@
 -- ROWS IN WORDS WITHOUT THE MANY TIME ROWS OF A LOG: the line of a time row that does nothing is left out if the next line is that of another one.
 use Rattle.std.specs.Prelude.{◌≡◌, ℕ, ◌&&◌, nat_le, Bool, true, false, List, [], ◌∷◌, ◌++◌, length, take, codes, if◌then◌else◌}
-use Rattle.std.specs.List.{list_all}
-use Rattle.std.specs.Str.{bytes_eq}
+use Rattle.std.specs.{List.list_all, Str.bytes_eq}
 use Rattle.of_text.specs.Lines.{before, behind, ended}
 use Rattle.of_replay.specs.Lexing.{is_digit, last_from, whole_lines}
 

@@ -1,19 +1,16 @@
 -- A MESSAGE IN WORDS: its name, its transaction id, the fields of its type, and how many bytes it has. The words are read from the bytes.
 use Rattle.std.specs.Prelude.{ℕ, ◌+◌, ◌==◌, List, [], ◌∷◌, ◌++◌, length, drop, codes, Option, Some, None, Result, Ok, Err, if◌then◌else◌}
 use Rattle.std.specs.List.{flat_map}
-use Rattle.of_wire.specs.declared.code.Code.{Code}
-use Rattle.of_wire.specs.CodeNames.{error_name}
+use Rattle.of_wire.specs.{declared.code.Code.Code, CodeNames.error_name}
 use Rattle.of_formats.specs.declared.messages.TheConstants.{ERROR, FEATURES_REPLY, FLOW_MOD, FLOW_REMOVED, GET_ASYNC_REPLY, GET_CONFIG_REPLY, GROUP_MOD, MULTIPART_REPLY, MULTIPART_REQUEST, PACKET_IN, PACKET_OUT, PORT_MOD, PORT_STATUS, ROLE_REPLY, ROLE_REQUEST, SET_ASYNC, SET_CONFIG, TABLE_MOD}
 use Rattle.of_formats.specs.Structs.{size}
 use Rattle.of_formats.specs.Tables as tables
-use Rattle.of_oxm.specs.declared.match_field.MatchField.{MatchField}
-use Rattle.of_oxm.specs.MatchReading.{match_of}
+use Rattle.of_oxm.specs.{declared.match_field.MatchField.MatchField, MatchReading.match_of}
 use Rattle.of_values.specs.Entries.{field_words}
 use Rattle.of_explain.specs.declared.fields.Form.TheVariants.{Plainly, Named, InHex, UnlessAny, UnlessZero}
 use Rattle.of_explain.specs.declared.names.Names.TheVariants.{Types, ErrorTypes, PacketInReasons, FlowRemovedReasons, PortStatusReasons, FlowCommands, GroupCommands, Multiparts, Roles}
 use Rattle.of_explain.specs.Fields.{Field, fields, field_number, labelled_field, fields_words}
-use Rattle.of_explain.specs.Names.{name_or_number, name_in}
-use Rattle.of_explain.specs.Notes.{size_words}
+use Rattle.of_explain.specs.{Names.name_or_number, Names.name_in, Notes.size_words}
 
 -- ---- the fields of each type of message, behind the eight bytes of its header, in the order of the text
 

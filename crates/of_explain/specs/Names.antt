@@ -2,8 +2,8 @@
 use Rattle.std.specs.Prelude.{ℕ, List, decimal, Option, Some, None}
 use Rattle.of_wire.specs.Parts.{nth_part}
 use Rattle.of_formats.specs.Messages.{message_name}
-use Rattle.of_explain.specs.declared.names.Names.{Names}
 use Rattle.of_explain.specs.declared.names.Names.TheVariants.{Types, ErrorTypes, PacketInReasons, FlowRemovedReasons, PortStatusReasons, FlowCommands, GroupCommands, GroupTypes, Multiparts, Roles}
+use Rattle.of_explain.specs.declared.names.Names.{Names}
 use Rattle.of_explain.specs.declared.names.TheConstants as words
 
 unfoldable pub name_for : Names → ℕ → Option (List ℕ)

@@ -2,19 +2,12 @@
 use Rattle.std.specs.Prelude.{ℕ, List, [], ◌∷◌, ◌++◌, drop, take, length, nat_lt, codes, Option, Some, None, Result, Ok, Err, if◌then◌else◌}
 use Rattle.std.specs.Str.{bytes_eq}
 use Rattle.hex.specs.Hex.{encode_lower}
-use Rattle.of_frame_words.specs.Frames.{ReceivedFrame, frame_in_words}
-use Rattle.of_frame_words.specs.Said.{WordRefusal}
+use Rattle.of_frame_words.specs.{Frames.ReceivedFrame, Frames.frame_in_words, Said.WordRefusal}
 use Rattle.of_switch.specs.State.{State}
-use Rattle.of_replay.specs.Lexing.{first_word, after_first_word, word_number, hex_bytes}
-use Rattle.of_replay.specs.FileRuns.{switch_text}
-use Rattle.of_replay.specs.RowTexts.{RowText}
-use Rattle.of_trace.specs.declared.form.Output.TheVariants.{Lines}
-use Rattle.of_trace.specs.declared.form.Form.TheVariants.{Plain, Explained, Why}
-use Rattle.of_trace.specs.declared.form.Asked.TheVariants.{All}
-use Rattle.of_trace.specs.Files.{trace_on}
-use Rattle.of_explain.specs.Explained.{frame_notes}
-use Rattle.of_explain.specs.declared.question.Manner.{Manner}
-use Rattle.of_explain.specs.declared.question.Manner.TheVariants.{Words, Steps}
+use Rattle.of_replay.specs.{Lexing.first_word, Lexing.after_first_word, Lexing.word_number, Lexing.hex_bytes, FileRuns.switch_text, RowTexts.RowText}
+use Rattle.of_trace.specs.{declared.form.Output.TheVariants.Lines, declared.form.Form.TheVariants.Plain, declared.form.Form.TheVariants.Explained, declared.form.Form.TheVariants.Why}
+use Rattle.of_trace.specs.{declared.form.Asked.TheVariants.All, Files.trace_on}
+use Rattle.of_explain.specs.{Explained.frame_notes, declared.question.Manner.Manner, declared.question.Manner.TheVariants.Words, declared.question.Manner.TheVariants.Steps}
 use Rattle.of_explain.specs.declared.question.Question.{Question as Asked}
 use Rattle.of_explain.specs.declared.question.Question.TheVariants as asked
 

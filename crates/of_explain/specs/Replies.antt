@@ -2,19 +2,15 @@
 use Rattle.std.specs.Prelude.{ℕ, zero, suc, nat_le, ◌+◌, ◌==◌, List, [], ◌∷◌, ◌++◌, length, take, drop, map, codes, Option, Some, None, Result, Ok, Err, if◌then◌else◌}
 use Rattle.std.specs.List.{flat_map}
 use Rattle.of_wire.specs.declared.code.Code.{Code}
-use Rattle.of_formats.specs.declared.messages.TheConstants.{FLOW_REMOVED, MULTIPART_REPLY}
-use Rattle.of_formats.specs.Structs.{size}
+use Rattle.of_formats.specs.{declared.messages.TheConstants.FLOW_REMOVED, declared.messages.TheConstants.MULTIPART_REPLY, Structs.size}
 use Rattle.of_formats.specs.Tables as tables
-use Rattle.of_oxm.specs.declared.match_field.MatchField.{MatchField}
-use Rattle.of_oxm.specs.MatchReading.{match_of}
+use Rattle.of_oxm.specs.{declared.match_field.MatchField.MatchField, MatchReading.match_of}
 use Rattle.of_lines.specs.declared.row.Row.{Row}
 use Rattle.of_lines.specs.declared.row.Row.TheVariants as rows
 use Rattle.of_text.specs.Lines.{ended}
-use Rattle.of_explain.specs.declared.fields.Form.TheVariants.{Plainly, Named, InHex}
-use Rattle.of_explain.specs.declared.names.Names.TheVariants.{GroupTypes}
 use Rattle.of_explain.specs.Fields.{Field, fields, field_number, labelled_field, fields_words}
-use Rattle.of_explain.specs.Messages.{multipart_type}
-use Rattle.of_explain.specs.Requests.{row_line, row_lines}
+use Rattle.of_explain.specs.{declared.fields.Form.TheVariants.Plainly, declared.fields.Form.TheVariants.Named, declared.fields.Form.TheVariants.InHex, declared.names.Names.TheVariants.GroupTypes}
+use Rattle.of_explain.specs.{Messages.multipart_type, Requests.row_line, Requests.row_lines}
 
 -- ---- the rows
 

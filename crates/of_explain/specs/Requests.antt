@@ -4,19 +4,14 @@ use Rattle.std.specs.List.{flat_map}
 use Rattle.of_wire.specs.declared.code.Code.{Code}
 use Rattle.of_messages.specs.declared.message.Message.{Message}
 use Rattle.of_messages.specs.declared.message.Message.TheVariants.{PacketOut, FlowMod, GroupMod, Multipart}
-use Rattle.of_messages.specs.declared.message.FlowMod.{FlowMod as AFlowMod}
-use Rattle.of_messages.specs.declared.group_mod.GroupMod.{GroupMod as AGroupMod}
+use Rattle.of_messages.specs.{declared.message.FlowMod.FlowMod as AFlowMod, declared.group_mod.GroupMod.GroupMod as AGroupMod}
 use Rattle.of_messages.specs.declared.group_mod.GroupMod.TheVariants.{Add, Modify, Delete}
-use Rattle.of_messages.specs.declared.multipart.MultipartRequest.{MultipartRequest}
-use Rattle.of_messages.specs.declared.multipart.MultipartRequest.TheVariants.{Flow, Aggregate}
+use Rattle.of_messages.specs.{declared.multipart.MultipartRequest.MultipartRequest, declared.multipart.MultipartRequest.TheVariants.Flow, declared.multipart.MultipartRequest.TheVariants.Aggregate}
 use Rattle.of_messages.specs.Messages.{message_of}
 use Rattle.of_session.specs.Stream.{First, Whole, Bad, Partial, beginning_of}
 use Rattle.of_lines.specs.declared.row.Row.{Row}
 use Rattle.of_lines.specs.declared.row.Row.TheVariants as rows
-use Rattle.of_text.specs.Rows.{row_encoding}
-use Rattle.of_text.specs.Flows.{instruction_rows}
-use Rattle.of_text.specs.Groups.{group_rows}
-use Rattle.of_text.specs.Lines.{ended, note}
+use Rattle.of_text.specs.{Rows.row_encoding, Flows.instruction_rows, Groups.group_rows, Lines.ended, Lines.note}
 use Rattle.of_build.specs.Listing.{new_group_text}
 use Rattle.of_explain.specs.Messages.{message_words}
 

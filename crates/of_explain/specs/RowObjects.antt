@@ -2,8 +2,7 @@
 -- lines that are printed below it in words.
 use Rattle.std.specs.Prelude.{ℕ, List, [], ◌∷◌, ◌++◌, codes, decimal}
 use Rattle.of_text.specs.Lines.{lines_of}
-use Rattle.of_json.specs.Parts.{key, listed}
-use Rattle.of_json.specs.Strings.{array_member, line_string, string_member}
+use Rattle.of_json.specs.{Parts.key, Parts.listed, Strings.array_member, Strings.line_string, Strings.string_member}
 use Rattle.of_replay.specs.RowTexts.{RowText}
 use Rattle.of_explain.specs.Explained.{notes_below}
 

@@ -3,9 +3,7 @@ use Rattle.std.specs.Prelude.{◌≡◌, ℕ, List, [], ◌∷◌, ◌++◌, len
 use Rattle.std.specs.List.{flat_map}
 use Rattle.of_messages.specs.Messages.{message_of}
 use Rattle.of_session.specs.Stream.{Splits}
-use Rattle.of_explain.specs.Messages.{message_words}
-use Rattle.of_explain.specs.Requests.{row_lines, rows_said}
-use Rattle.of_explain.specs.Replies.{answer_lines}
+use Rattle.of_explain.specs.{Messages.message_words, Requests.row_lines, Requests.rows_said, Replies.answer_lines}
 
 -- a line of words, and below it what it says in flow text, or the rows of a reply
 unfoldable pub message_lines : List ℕ → List ℕ

@@ -1,11 +1,8 @@
 //! Event files, explained.
 ghost use Rattle.std.specs.Prelude.{◌≡◌};
 ghost use Rattle.of_switch.specs.State.{start};
-ghost use Rattle.of_replay.specs.Play.{PrintsLines, WrittenEarly};
-ghost use Rattle.of_replay.specs.RowTexts.{told};
-ghost use Rattle.of_replay.specs.WholeFiles.{RunFaults};
-ghost use Rattle.of_explain.specs.Explained.{explained};
-ghost use Rattle.of_explain.specs.RowObjects.{explained_json};
+ghost use Rattle.of_replay.specs.{Play.PrintsLines, Play.WrittenEarly, RowTexts.told, WholeFiles.RunFaults};
+ghost use Rattle.of_explain.specs.{Explained.explained, RowObjects.explained_json};
 
 use crate::json_rows::ExplainingJson;
 use crate::rows::Explaining;

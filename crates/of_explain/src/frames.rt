@@ -1,13 +1,11 @@
 //! The ways of frames in words.
 ghost use Rattle.std.specs.Prelude.{◌≡◌, ◌++◌, IfErr, IfOk, OnOk, codes};
-ghost use Rattle.of_switch.specs.Steps.{frame_in};
-ghost use Rattle.of_switch.specs.declared.switch_error.SwitchError.TheVariants.{NoMemory};
-ghost use Rattle.std.specs.List.{flat_map};
-ghost use Rattle.std.specs.Option.{option_copied};
+ghost use Rattle.std.specs.{List.flat_map, Option.option_copied};
+ghost use Rattle.of_switch.specs.{Steps.frame_in, declared.switch_error.SwitchError.TheVariants.NoMemory};
 ghost use Rattle.of_headers.specs.Faults.{frame_fault};
 ghost use Rattle.of_text.specs.Lines.{note};
-ghost use Rattle.of_explain.specs.Notes.{number_note, port_and_size, with_number};
 ghost use Rattle.of_explain.specs.Explained.{arrival_notes, frame_notes, length_notes, not_received, nothing_leaves, port_notes, step_notes, way_notes};
+ghost use Rattle.of_explain.specs.Notes.{number_note, port_and_size, with_number};
 
 use crate::effects::push_effects;
 use crate::notes::{push_number_note, push_port_and_size, push_with_number};

@@ -1,8 +1,7 @@
 //! Rows explained as JSON.
 ghost use Rattle.std.specs.Prelude.{◌≡◌, ◌++◌, codes, OnOk};
 ghost use Rattle.of_text.specs.Lines.{lines_of};
-ghost use Rattle.of_json.specs.Parts.{listed};
-ghost use Rattle.of_json.specs.Strings.{array_member, line_string};
+ghost use Rattle.of_json.specs.{Parts.listed, Strings.array_member, Strings.line_string};
 ghost use Rattle.of_explain.specs.RowObjects.{explained_json, object_unless_empty, row_object};
 
 use crate::rows::tell_notes;

@@ -1,13 +1,9 @@
 //! Laws of what is printed.
 ghost use Rattle.std.specs.Prelude.{◌≡◌, ◌++◌, ℕ, List, [], Some, false};
 ghost use Rattle.std.specs.List.{flat_map};
-ghost use Rattle.of_session.specs.Session.{is_disconnected};
-ghost use Rattle.of_session.specs.Stream.{Splits};
-ghost use Rattle.of_switch.specs.Runs.{chunk_in};
-ghost use Rattle.of_switch.specs.State.{State};
-ghost use Rattle.of_switch.specs.declared.event.Event.TheVariants.{Chunk};
-ghost use Rattle.of_explain.specs.Explained.{echoed, effect_notes, explained};
-ghost use Rattle.of_explain.specs.Requests.{request_notes};
+ghost use Rattle.of_session.specs.{Session.is_disconnected, Stream.Splits};
+ghost use Rattle.of_switch.specs.{Runs.chunk_in, State.State, declared.event.Event.TheVariants.Chunk};
+ghost use Rattle.of_explain.specs.{Explained.echoed, Explained.effect_notes, Explained.explained, Requests.request_notes};
 
 /// Below a row of a connected controller's bytes come the notes of each message that they complete, in order, and then
 /// those of what the switch gives.

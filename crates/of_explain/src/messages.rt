@@ -1,9 +1,8 @@
 //! Messages in words.
-ghost use Rattle.std.specs.Prelude.{◌≡◌, ◌++◌, OnOk};
-ghost use Rattle.std.specs.List.{flat_map};
+ghost use Rattle.std.specs.{Prelude.◌≡◌, Prelude.◌++◌, Prelude.OnOk, List.flat_map};
 ghost use Rattle.of_oxm.specs.MatchReading.{match_of};
-ghost use Rattle.of_explain.specs.Fields.{big_number_at as a_number_at};
 ghost use Rattle.of_explain.specs.Messages.{and_code, and_match, error_fields, fields_of_message, spaced_field, message_words, multipart_fields, multipart_reply_fields, packet_in_and_match, type_and_fields};
+ghost use Rattle.of_explain.specs.Fields.{big_number_at as a_number_at};
 
 use crate::fields::{behind, half_at, number_at, push_fields};
 use crate::names::{Names, push_name, push_named};

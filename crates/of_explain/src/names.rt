@@ -1,6 +1,5 @@
 //! The names that the standard gives to numbers.
-ghost use Rattle.std.specs.Prelude.{◌≡◌, ◌++◌, decimal, OnOk};
-ghost use Rattle.std.specs.Option.{option_map};
+ghost use Rattle.std.specs.{Prelude.◌≡◌, Prelude.◌++◌, Prelude.decimal, Prelude.OnOk, Option.option_map};
 ghost use Rattle.of_wire.specs.Parts.{nth_part};
 ghost use Rattle.of_explain.specs.Names.{name_for, name_in, name_or_number};
 

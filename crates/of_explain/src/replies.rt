@@ -1,11 +1,9 @@
 //! What is below the note of an answer, in words: the rows of a multipart reply (OpenFlow 1.3.5, 7.3.5), the match of a FLOW_REMOVED (7.4.2).
 ghost use Rattle.std.specs.Prelude.{◌≡◌, ◌++◌, ◌≤◌, codes, drop, length, IfOk, IfSome, OnOk};
 ghost use Rattle.std.specs.List.{AllByRecursion, flat_map};
-ghost use Rattle.of_text.specs.Rows.{Fits};
-ghost use Rattle.of_text.specs.Lines.{ended};
-ghost use Rattle.of_explain.specs.Fields.{fields_words};
-ghost use Rattle.of_explain.specs.Messages.{multipart_type};
+ghost use Rattle.of_text.specs.{Rows.Fits, Lines.ended};
 ghost use Rattle.of_explain.specs.Replies.{answer_lines, deeper_line, deeper_lines, front_row, length_by, removed_lines, reply_row, row_match, row_told, rows_by, rows_of_reply};
+ghost use Rattle.of_explain.specs.{Fields.fields_words, Messages.multipart_type};
 
 use crate::fields::{behind, half_at, number_at, push_fields};
 use crate::requests::{push_line, push_lines};

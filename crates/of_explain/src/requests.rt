@@ -1,8 +1,6 @@
 //! What a controller says, in words.
-ghost use Rattle.std.specs.Prelude.{◌≡◌, ◌++◌, OnOk};
-ghost use Rattle.std.specs.List.{AllByRecursion, flat_map};
-ghost use Rattle.of_text.specs.Rows.{Fits};
-ghost use Rattle.of_text.specs.Lines.{note};
+ghost use Rattle.std.specs.{Prelude.◌≡◌, Prelude.◌++◌, Prelude.OnOk, List.AllByRecursion, List.flat_map};
+ghost use Rattle.of_text.specs.{Rows.Fits, Lines.note};
 ghost use Rattle.of_explain.specs.Requests.{messages_in_bytes, chunk_notes, request_notes, row_line, row_lines, said_words};
 
 use crate::messages::push_message;

@@ -1,10 +1,8 @@
 //! Rows explained.
 ghost use Rattle.std.specs.Prelude.{◌≡◌, ◌++◌, ℕ, List, IfErr, OnOk};
-ghost use Rattle.of_switch.specs.declared.switch_error.SwitchError.TheVariants.{NoMemory};
-ghost use Rattle.of_replay.specs.Rows.{with_bytes};
-ghost use Rattle.of_replay.specs.RowTexts.{row_happened};
+ghost use Rattle.of_switch.specs.{declared.switch_error.SwitchError.TheVariants.NoMemory, Runs.Gives};
+ghost use Rattle.of_replay.specs.{Rows.with_bytes, RowTexts.row_happened};
 ghost use Rattle.of_explain.specs.Explained.{echoed, end_notes, explained, notes_below, report_notes, row_notes, TellsReport};
-ghost use Rattle.of_switch.specs.Runs.{Gives};
 
 use crate::effects::{push_effects, push_refusal};
 use crate::frames::{push_nothing, push_way};

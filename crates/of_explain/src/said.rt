@@ -3,13 +3,10 @@ ghost use Rattle.std.specs.Prelude.{◌≡◌, ◌++◌, IfOk, OnOk, map};
 ghost use Rattle.std.specs.List.{AllByRecursion, flat_map};
 ghost use Rattle.of_messages.specs.Messages.{message_of};
 ghost use Rattle.of_oxm.specs.MatchReading.{match_of};
-ghost use Rattle.of_text.specs.Flows.{instruction_rows};
-ghost use Rattle.of_text.specs.Groups.{bucket_rows, group_rows};
-ghost use Rattle.of_text.specs.Rows.{Fits};
-ghost use Rattle.of_text.specs.Views.{view_bucket};
+ghost use Rattle.of_text.specs.{Flows.instruction_rows, Groups.bucket_rows, Groups.group_rows, Rows.Fits, Views.view_bucket};
 ghost use Rattle.of_build.specs.Listing.{new_group_text};
-ghost use Rattle.of_explain.specs.Replies.{match_rows};
 ghost use Rattle.of_explain.specs.Requests.{asked_rows, flow_mod_rows, group_mod_rows, message_rows, rows_said};
+ghost use Rattle.of_explain.specs.Replies.{match_rows};
 
 use of_actions::Instruction;
 use of_build::group_text;

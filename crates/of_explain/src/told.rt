@@ -1,8 +1,6 @@
 //! The fields of messages and of rows that are printed, in the order of the text: the word before each, its place, its size, and its form.
 ghost use Rattle.std.specs.Prelude.{◌≡◌, map, IsTrue};
-ghost use Rattle.of_explain.specs.Fields.{are_short, field_of};
-ghost use Rattle.of_explain.specs.Messages.{asked_for_fields, counted_by, told_of};
-ghost use Rattle.of_explain.specs.Replies.{row_told};
+ghost use Rattle.of_explain.specs.{Fields.are_short, Fields.field_of, Messages.asked_for_fields, Messages.counted_by, Messages.told_of, Replies.row_told};
 
 use crate::fields::Field;
 use crate::fields::Form::{InHex, Named, Plainly, UnlessAny, UnlessZero};

@@ -1,11 +1,8 @@
 -- The lines of a text, one after the other.
 use Rattle.std.proofs.Common.{◌≡◌, ℕ, ◌+◌, ◌<◌, Bool, true, false, List, [], ◌++◌, length, refl, sym, ap, ◌∙◌, append_assoc}
-use Rattle.std.specs.Prelude.{Some, None}
-use Rattle.std.proofs.lemmas.List.{append-nil}
-use Rattle.of_text.specs.Lines.{lines_of, before, behind, is_passed}
-use Rattle.of_text.proofs.TextLemmas.{first_line}
-use Rattle.of_files.specs.FlowLines.{begins_flow_of_table, number_if, numbers_from}
-use Rattle.of_files.specs.Contents.{first_counted}
+use Rattle.std.{specs.Prelude.Some, specs.Prelude.None, proofs.lemmas.List.append-nil}
+use Rattle.of_text.{specs.Lines.lines_of, specs.Lines.before, specs.Lines.behind, specs.Lines.is_passed, proofs.TextLemmas.first_line}
+use Rattle.of_files.specs.{FlowLines.begins_flow_of_table, FlowLines.number_if, FlowLines.numbers_from, Contents.first_counted}
 
 pub next_number : (table n : ℕ) (b : Bool) (numbers new rest line after all : List ℕ) → 0 < length rest → line ≡ before 10 rest → after ≡ behind 10 rest → b ≡ begins_flow_of_table table line
     → new ≡ numbers ++ number_if b (n + 1) → numbers ++ numbers_from table n (lines_of rest) ≡ all → new ++ numbers_from table (n + 1) (lines_of after) ≡ all

@@ -1,15 +1,10 @@
 -- The lines of an event file, played one after the other.
 use Rattle.std.proofs.Common.{◌≡◌, ℕ, ◌+◌, ◌-◌, ◌<◌, ◌≤◌, zero, suc, true, false, List, [], ◌∷◌, ◌++◌, length, take, Option, Some, None, refl, sym, ◌∙◌, ap, arith}
-use Rattle.std.specs.Option.{option_map}
-use Rattle.std.proofs.lemmas.Bool.Decides.{nat_tests}
-use Rattle.of_switch.specs.declared.event.Event.{Event}
-use Rattle.of_switch.specs.State.{State, start}
-use Rattle.of_switch.specs.Runs.{run}
-use Rattle.of_text.specs.Lines.{lines_of, before, behind}
-use Rattle.of_text.proofs.TextLemmas.{first_line}
-use Rattle.of_replay.specs.FileRuns.{state_after_rows}
-use Rattle.of_replay.specs.RowTexts.{row_happened}
+use Rattle.std.{specs.Option.option_map, proofs.lemmas.Bool.Decides.nat_tests}
+use Rattle.of_switch.specs.{declared.event.Event.Event, State.State, State.start, Runs.run}
+use Rattle.of_text.{specs.Lines.lines_of, specs.Lines.before, specs.Lines.behind, proofs.TextLemmas.first_line}
 use Rattle.of_replay.specs.Rows.{Rows, events_in, row_and, row_of_line, rows_of_lines}
+use Rattle.of_replay.specs.{FileRuns.state_after_rows, RowTexts.row_happened}
 use Rattle.of_files.specs.Playing.{PlaysLine, first_lines, were_all}
 
 -- the lines that are asked for, where so many came before these

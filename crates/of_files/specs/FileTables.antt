@@ -1,17 +1,13 @@
 -- WHAT A FILE IS READ AS that has groups and flows: a configuration, for each table where its flows come from, by age, and what is left out.
 use Rattle.std.specs.Prelude.{◌≡◌, ℕ, true, false, List, [], None, Some}
-use Rattle.of_text.specs.Configs.{EncodeConfig}
-use Rattle.of_text.specs.Lines.{lines_of}
+use Rattle.of_text.specs.{Configs.EncodeConfig, Lines.lines_of}
 use Rattle.of_values.specs.Origins.{view_origins}
 use Rattle.of_ovs_lines.specs.declared.mode.Mode.{Mode}
-use Rattle.of_import.specs.declared.kept.KeptLines.{KeptLines}
-use Rattle.of_import.specs.Imports.{IsImportConfig}
+use Rattle.of_import.specs.{declared.kept.KeptLines.KeptLines, Imports.IsImportConfig}
 use Rattle.of_import_report.specs.FlowOrigins.{flow_origins_below}
 use Rattle.of_replay.specs.FileRuns.{HasFault, IsBad, IsTextFault, IsValue, Meaning}
 use Rattle.of_replay.specs.WholeFiles.{bad_line}
-use Rattle.of_files.specs.declared.tables.FileTables.{FileTables}
-use Rattle.of_files.specs.declared.tables.LeftOut.{LeftOut}
-use Rattle.of_files.specs.FlowLines.{text_origins_below}
+use Rattle.of_files.specs.{declared.tables.FileTables.FileTables, declared.tables.LeftOut.LeftOut, FlowLines.text_origins_below}
 
 -- nothing is left out
 pub record IsNothingLeftOut (l : LeftOut) : Type 0 where

@@ -2,11 +2,8 @@
 -- is gone. And of those with which it only connects.
 use Rattle.std.specs.Prelude.{List, [], ◌∷◌, ◌++◌, map}
 use Rattle.of_text.specs.Configs.{Configuration}
-use Rattle.of_build.specs.Building.{hello}
-use Rattle.of_build.specs.Listing.{messages_of}
-use Rattle.of_switch.specs.declared.event.Event.{Event}
-use Rattle.of_switch.specs.declared.event.Event.TheVariants.{Chunk, Connect, Lost}
-use Rattle.of_switch.specs.State.{State}
+use Rattle.of_build.specs.{Building.hello, Listing.messages_of}
+use Rattle.of_switch.specs.{declared.event.Event.Event, declared.event.Event.TheVariants.Chunk, declared.event.Event.TheVariants.Connect, declared.event.Event.TheVariants.Lost, State.State}
 use Rattle.of_switch.specs.Runs.{run}
 
 abbrev pub connection_events : List Event

@@ -2,14 +2,9 @@
 use Rattle.std.specs.Prelude.{ℕ, zero, suc, nat_lt, ◌==◌, Bool, List, [], ◌∷◌, ◌++◌, filter, not, take, slice_index_or, Option, Some, None, if◌then◌else◌}
 use Rattle.std.specs.List.{flat_map, list_any}
 use Rattle.of_oxm.specs.declared.match_field.MatchField.{MatchField}
-use Rattle.of_actions.specs.declared.action.Action.{Action}
-use Rattle.of_actions.specs.declared.action.Action.TheVariants.{Output}
-use Rattle.of_actions.specs.declared.instruction.Instruction.{Instruction}
-use Rattle.of_actions.specs.declared.instruction.Instruction.TheVariants.{Apply, Write}
-use Rattle.of_actions.specs.PortNumbers.{is_number}
-use Rattle.of_text.specs.Configs.{Configuration}
-use Rattle.of_text.specs.Flows.{Flow}
-use Rattle.of_text.specs.Groups.{TextBucket, TextGroup}
+use Rattle.of_actions.specs.{declared.action.Action.Action, declared.action.Action.TheVariants.Output, declared.instruction.Instruction.Instruction}
+use Rattle.of_actions.specs.{declared.instruction.Instruction.TheVariants.Apply, declared.instruction.Instruction.TheVariants.Write, PortNumbers.is_number}
+use Rattle.of_text.specs.{Configs.Configuration, Flows.Flow, Groups.TextBucket, Groups.TextGroup}
 use Rattle.of_check.specs.Actions.{required_port}
 
 -- ---- what names a port: an OUTPUT, a match on IN_PORT, and a bucket that watches one

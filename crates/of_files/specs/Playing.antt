@@ -1,11 +1,9 @@
 -- THE SWITCH AFTER THE ROWS OF AN EVENT FILE that was read whole.
 use Rattle.std.specs.Prelude.{◌≡◌, ℕ, ◌==◌, Bool, true, false, List, take, Option, Some, None}
 use Rattle.of_text.specs.Lines.{lines_of}
-use Rattle.of_switch.specs.declared.event.Event.{Event}
-use Rattle.of_switch.specs.State.{State}
+use Rattle.of_switch.specs.{declared.event.Event.Event, State.State}
 use Rattle.of_replay.specs.FileRuns.{HasFault, IsBad, IsValue, Meaning, state_after_rows}
-use Rattle.of_replay.specs.RowTexts.{row_happened}
-use Rattle.of_replay.specs.Rows.{rows_of_lines}
+use Rattle.of_replay.specs.{RowTexts.row_happened, Rows.rows_of_lines}
 
 -- all lines of a file, or the first ones
 abbrev pub first_lines : Option ℕ → List (List ℕ) → List (List ℕ)

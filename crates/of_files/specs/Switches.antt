@@ -1,29 +1,19 @@
 -- THE SWITCH THAT A FILE DESCRIBES: that of its groups and flows, with ports that are given or that the file names; or the one after the rows of an event
 -- file.
 use Rattle.std.specs.Prelude.{◌≡◌, ◌++◌, ℕ, true, false, List, [], map, Option, Some, None, Err}
-use Rattle.std.specs.Global.{Vec}
-use Rattle.std.specs.Option.{option_map, option_or}
+use Rattle.std.specs.{Global.Vec, Option.option_map, Option.option_or}
 use Rattle.of_text.specs.Lines.{lines_of}
-use Rattle.of_switch.specs.State.{State}
-use Rattle.of_switch.specs.Loading.{config_of}
-use Rattle.of_replay.specs.declared.event_file.Ended.TheVariants.{NoMemory}
-use Rattle.of_replay.specs.FileRuns.{IsRead, IsValue}
-use Rattle.of_replay.specs.Loaded.{switch_with}
+use Rattle.of_switch.specs.{State.State, Loading.config_of}
+use Rattle.of_replay.specs.{declared.event_file.Ended.TheVariants.NoMemory, FileRuns.IsRead, FileRuns.IsValue, Loaded.switch_with}
 use Rattle.of_ovs_lines.specs.declared.mode.Mode.{Mode}
 use Rattle.of_import.specs.Imports.{NoImport}
 use Rattle.of_files.specs.declared.contents.Content.{Content}
 use Rattle.of_files.specs.declared.contents.Content.TheVariants.{FlowText, EventFile, OvsTable}
-use Rattle.of_files.specs.declared.switches.Contents.{Contents}
+use Rattle.of_files.specs.{declared.switches.Contents.Contents, declared.switches.NoContents.NoContents}
+use Rattle.of_files.specs.{declared.switches.NoContents.TheVariants.Ended, declared.switches.NoContents.TheVariants.NotImported, declared.switches.PortList.PortList}
+use Rattle.of_files.specs.{declared.tables.FileTables.FileTables, Contents.content_of, FileTables.IsNothingLeftOut, FileTables.IsTableRead, FileTables.tables_of_text, FirstEvents.with_controller}
+use Rattle.of_files.specs.{NamedPorts.missing_ports, NamedPorts.named_ports, NamedPorts.ports_with, Playing.played_file}
 use Rattle.of_files.specs.declared.switches.Contents.TheVariants as declared
-use Rattle.of_files.specs.declared.switches.NoContents.{NoContents}
-use Rattle.of_files.specs.declared.switches.NoContents.TheVariants.{Ended, NotImported}
-use Rattle.of_files.specs.declared.switches.PortList.{PortList}
-use Rattle.of_files.specs.declared.tables.FileTables.{FileTables}
-use Rattle.of_files.specs.Contents.{content_of}
-use Rattle.of_files.specs.FileTables.{IsNothingLeftOut, IsTableRead, tables_of_text}
-use Rattle.of_files.specs.FirstEvents.{with_controller}
-use Rattle.of_files.specs.NamedPorts.{missing_ports, named_ports, ports_with}
-use Rattle.of_files.specs.Playing.{played_file}
 
 -- ---- what a file is read as
 

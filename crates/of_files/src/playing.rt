@@ -1,8 +1,6 @@
 //! Event files that are read whole, played on a switch.
 ghost use Rattle.std.specs.Prelude.{◌≡◌, IfOk, OnOk, true};
-ghost use Rattle.of_replay.specs.FileRuns.{IsRead};
-ghost use Rattle.of_replay.specs.Rows.{row_of_line, with_bytes};
-ghost use Rattle.of_replay.specs.RowTexts.{row_happened};
+ghost use Rattle.of_replay.specs.{FileRuns.IsRead, Rows.row_of_line, Rows.with_bytes, RowTexts.row_happened};
 ghost use Rattle.of_files.specs.Playing.{PlaysLine, played_file, were_all as are_all};
 
 use of_classifier::Lookup;

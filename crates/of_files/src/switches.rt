@@ -1,8 +1,8 @@
 //! The switch that a file describes, and its ports.
 ghost use Rattle.std.specs.Prelude.{◌≡◌, ◌++◌, IfErr, IfOk, OnOk, is_some, map};
 ghost use Rattle.of_replay.specs.Loaded.{switch_with};
-ghost use Rattle.of_files.specs.FirstEvents.{with_controller};
 ghost use Rattle.of_files.specs.Switches.{AreContents, AreFlowsOf, ArePorts, ArePortsOfBoth, HasNoContents, DescribesSwitch, chosen_ports, content_said, missing_said, own_ports as ports_of_run, ports_given, ports_named, switch_said, view_contents};
+ghost use Rattle.of_files.specs.FirstEvents.{with_controller};
 
 use crate::beginning::connect;
 use crate::contents::{Content, content_of};

@@ -1,8 +1,6 @@
 -- A reading that gives a value: each of its steps gave one, and none was refused.
 use Rattle.std.proofs.Common.{◌≡◌, Bool, List, Option, Some, None, Result, Ok, Err, refl}
-use Rattle.of_wire.specs.declared.code.Code.{Code}
-use Rattle.of_wire.specs.Refusals.{first_of}
-use Rattle.of_wire.proofs.FirstLemmas.{NoneApplies, none_applies}
+use Rattle.of_wire.{specs.declared.code.Code.Code, specs.Refusals.first_of, proofs.FirstLemmas.NoneApplies, proofs.FirstLemmas.none_applies}
 use Rattle.of_formats.specs.Reading.{◌>>=◌, or_refused, unless, known}
 
 pub bound : {A B : Type 0} (r : Result A Code) (k : A → Result B Code) (b : B) → (r >>= k) ≡ Ok b → (a : A) × (r ≡ Ok a) × (k a ≡ Ok b)

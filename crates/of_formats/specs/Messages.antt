@@ -2,14 +2,10 @@
 use Rattle.std.specs.Prelude.{ℕ, ◌==◌, nat_lt, Bool, true, false, not, List, [], ◌∷◌, ◌++◌, Option, Some, None, find}
 use Rattle.std.specs.Option.{option_map}
 use Rattle.of_wire.specs.Parts.{keyword}
-use Rattle.of_formats.specs.declared.messages.MessageRow.{MessageRow}
-use Rattle.of_formats.specs.declared.messages.Size.{Size}
-use Rattle.of_formats.specs.declared.messages.Size.TheVariants.{Exact, Least}
-use Rattle.of_formats.specs.declared.messages.TheConstants.{MESSAGES}
-use Rattle.of_formats.specs.declared.messages.Way.{Way}
-use Rattle.of_formats.specs.declared.messages.Way.TheVariants.{Read, Both}
-use Rattle.of_formats.specs.Structs.{Struct, pad}
 use Rattle.of_formats.specs.Tables.{async_config, error_msg, flow_mod, flow_removed, group_mod, multipart, packet_in, packet_out, port_mod, port_status, role, switch_config, switch_features, table_mod}
+use Rattle.of_formats.specs.{declared.messages.MessageRow.MessageRow, declared.messages.Size.Size, declared.messages.Size.TheVariants.Exact, declared.messages.Size.TheVariants.Least}
+use Rattle.of_formats.specs.{declared.messages.TheConstants.MESSAGES, declared.messages.Way.Way, declared.messages.Way.TheVariants.Read, declared.messages.Way.TheVariants.Both}
+use Rattle.of_formats.specs.Structs.{Struct, pad}
 
 unfoldable pub message_row : ℕ → Option MessageRow
 message_row type = find (λ row. type == row.kind) MESSAGES

@@ -1,7 +1,6 @@
 -- READING WITH THE FIRST REFUSAL (OpenFlow 1.3.5, 7.4.4): what is read so far, and then the rest; or the code of the first refusal.
 use Rattle.std.specs.Prelude.{Bool, List, Option, Some, None, Result, Ok, Err}
-use Rattle.of_wire.specs.declared.code.Code.{Code}
-use Rattle.of_wire.specs.Refusals.{first_of}
+use Rattle.of_wire.specs.{declared.code.Code.Code, Refusals.first_of}
 
 -- what follows comes first, so that it is one match on the result, with no function as its value
 abbrev pub and_then : {A B : Type 0} → (A → Result B Code) → Result A Code → Result B Code

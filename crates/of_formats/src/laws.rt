@@ -1,8 +1,7 @@
 //! Laws of structs: what is written is read, and what is read fits; and of the table of messages.
 ghost use Rattle.std.specs.Prelude.{◌≡◌, ◌≤◌, ◌+◌, ◌++◌, ℕ, List, length, map};
-ghost use Rattle.of_formats.specs.declared.messages.TheConstants.{MESSAGES};
-ghost use Rattle.of_formats.specs.Messages.{size_in_bytes, fixed_parts};
 ghost use Rattle.of_formats.specs.Structs.{Struct, FitsStruct, cleared, numbers, size, texts, written_with};
+ghost use Rattle.of_formats.specs.{declared.messages.TheConstants.MESSAGES, Messages.size_in_bytes, Messages.fixed_parts};
 
 /// Of each struct of the standard: the numbers and bytes that are written are read again, whatever follows them, and have the
 /// struct's size; numbers that are read fit; and bytes with the same numbers are the same, but for padding (OpenFlow 1.3.5, 7).

@@ -1,6 +1,5 @@
 //! The messages of the channel (OpenFlow 1.3.5, 7.1, enum ofp_type). Definitions and code cite them from here.
-ghost use Rattle.std.specs.Prelude.{◌≡◌, Some};
-ghost use Rattle.std.specs.Option.{option_map};
+ghost use Rattle.std.specs.{Prelude.◌≡◌, Prelude.Some, Option.option_map};
 ghost use Rattle.of_formats.specs.Messages.{is_bad_size, is_read, message_name as name_of_message, message_row as row_of_message};
 
 use Size::{Exact, Least};

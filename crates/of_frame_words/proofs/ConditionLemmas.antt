@@ -1,23 +1,13 @@
 -- The fields that words say are conditions.
 use Rattle.std.proofs.Common.{◌≡◌, ℕ, refl, Bool, true, false, not, ◌&&◌, List, [], ◌∷◌, Option, Some, None, Result, Ok, cond, sym, ap, ◌∙◌}
-use Rattle.std.specs.Prelude.{find, ◌==◌, ◌||◌, bit_and}
-use Rattle.std.proofs.lemmas.Bool.{eqb-true}
-use Rattle.of_layers.specs.Fields.{is_maskable, ones_of, prerequisite_of}
-use Rattle.of_layers.proofs.TestLemmas.{and_true}
-use Rattle.of_oxm.specs.declared.match_field.MatchField.{MatchField}
-use Rattle.of_oxm.specs.Prerequisites.{is_met}
-use Rattle.of_oxm.specs.Relations.{bits_looked_at}
-use Rattle.of_ovs_words.specs.FieldWords.{text_for}
-use Rattle.of_ovs_words.specs.Matches.{fields_of_settings}
-use Rattle.of_ovs_words.specs.Outcomes.{◌>>=◌}
-use Rattle.of_ovs_words.specs.Words.{words_from}
+use Rattle.std.{specs.Prelude.find, specs.Prelude.◌==◌, specs.Prelude.◌||◌, specs.Prelude.bit_and, proofs.lemmas.Bool.eqb-true}
+use Rattle.of_layers.{specs.Fields.is_maskable, specs.Fields.ones_of, specs.Fields.prerequisite_of, proofs.TestLemmas.and_true}
+use Rattle.of_oxm.specs.{declared.match_field.MatchField.MatchField, Prerequisites.is_met, Relations.bits_looked_at}
+use Rattle.of_ovs_words.specs.{FieldWords.text_for, Matches.fields_of_settings, Outcomes.◌>>=◌, Words.words_from}
 use Rattle.of_regions.specs.Conditions.{AreConditions, IsCondition}
-use Rattle.of_frame_words.specs.declared.why.NoFrame.{NoFrame}
-use Rattle.of_frame_words.specs.declared.why.NoFrame.TheVariants.{NoMemory, Refused}
 use Rattle.of_frame_words.specs.Conditions.{conditions_in_words, fit_fields, is_fit_beside, is_proper, unless_unfit, why_unfit}
-use Rattle.of_frame_words.specs.Refusals.{FrameStops, IsRefusal}
-use Rattle.of_frame_words.specs.Said.{WordRefusal, with_setting_words}
-use Rattle.of_frame_words.proofs.WordLemmas.{refusal_stops}
+use Rattle.of_frame_words.specs.{declared.why.NoFrame.NoFrame, declared.why.NoFrame.TheVariants.NoMemory, declared.why.NoFrame.TheVariants.Refused, Refusals.FrameStops, Refusals.IsRefusal}
+use Rattle.of_frame_words.{specs.Said.WordRefusal, specs.Said.with_setting_words, proofs.WordLemmas.refusal_stops}
 
 -- ---- fields that a match may have
 

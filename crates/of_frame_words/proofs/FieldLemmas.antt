@@ -1,14 +1,9 @@
 -- Fields that are tested to be a match are one.
 use Rattle.std.proofs.Common.{◌≡◌, ◌<◌, ◌∙◌, ℕ, Bool, true, List, [], ◌∷◌, Option, Some, None, sym, arith}
-use Rattle.std.specs.Prelude.{nat_lt, nat_le, IfSome}
-use Rattle.std.specs.List.{AllByRecursion, list_all}
-use Rattle.std.proofs.lemmas.Bool.{and_parts, eqb-true}
+use Rattle.std.{specs.Prelude.nat_lt, specs.Prelude.nat_le, specs.Prelude.IfSome, specs.List.AllByRecursion, specs.List.list_all, proofs.lemmas.Bool.and_parts, proofs.lemmas.Bool.eqb-true}
 use Rattle.std.proofs.lemmas.Bool.Decides.{nat_tests}
-use Rattle.of_layers.specs.declared.field.Field.{Field}
-use Rattle.of_layers.specs.Fields.{number_of, ones_of}
-use Rattle.of_oxm.specs.declared.match_field.MatchField.{MatchField}
-use Rattle.of_oxm.specs.Prerequisites.{prerequisites_met}
-use Rattle.of_oxm.specs.NormalForm.{IsAscending, IsKept, IsKeptMask, IsMatch}
+use Rattle.of_layers.specs.{declared.field.Field.Field, Fields.number_of, Fields.ones_of}
+use Rattle.of_oxm.specs.{declared.match_field.MatchField.MatchField, Prerequisites.prerequisites_met, NormalForm.IsAscending, NormalForm.IsKept, NormalForm.IsKeptMask, NormalForm.IsMatch}
 use Rattle.of_frame_words.specs.Fields.{rises_by_number, is_kept, is_kept_mask}
 
 mask_kept : (f : Field) (value : ℕ) (m : ℕ) → is_kept_mask f value (Some m) ≡ true → IsKeptMask f value m

@@ -1,33 +1,18 @@
 -- The frames that words say have what the words say.
 use Rattle.std.proofs.Common.{◌≡◌, ℕ, ◌%◌, ◌^◌, Bool, true, false, cond, not, ◌&&◌, List, [], ◌∷◌, Option, Some, None, Result, Ok, Err, refl, sym, ap, ◌∙◌, subst, inl, inr}
-use Rattle.std.specs.Prelude.{◌||◌, ◌==◌, unwrap_or}
-use Rattle.std.proofs.Math.Path.{fun_ext}
-use Rattle.std.specs.List.{list_any}
-use Rattle.of_layers.specs.declared.field.Field.{Field}
+use Rattle.std.{specs.Prelude.◌||◌, specs.Prelude.◌==◌, specs.Prelude.unwrap_or, specs.List.list_any, proofs.Math.Path.fun_ext}
 use Rattle.of_layers.specs.declared.field.Field.TheVariants.{InPort, Metadata, EthType, VlanVid, VlanPcp, IpProto}
+use Rattle.of_layers.specs.{declared.field.Field.Field, Fields.row_of, Fields.number_of, Fields.bit_count, Fields.prerequisite_of, Layers.Layers, Layers.ttl, Reading.layers_of}
 use Rattle.of_layers.specs.declared.field.Prerequisite.TheVariants as needs
-use Rattle.of_layers.specs.Fields.{row_of, number_of, bit_count, prerequisite_of}
-use Rattle.of_layers.specs.Layers.{Layers, ttl}
-use Rattle.of_layers.specs.Reading.{layers_of}
 use Rattle.of_headers.specs.FieldMap.{field_map, vid}
-use Rattle.of_rewrite.specs.Frames.{IsFrame, frame_ttl}
-use Rattle.of_rewrite.specs.Replaced.{layers_set}
-use Rattle.of_rewrite.specs.TimeToLive.{ttl_of}
-use Rattle.of_rewrite.proofs.Framing.{ttl_frame}
-use Rattle.of_rewrite.proofs.Layering.{layers_after_ttl}
+use Rattle.of_rewrite.{specs.Frames.IsFrame, specs.Frames.frame_ttl, specs.Replaced.layers_set, specs.TimeToLive.ttl_of, proofs.Framing.ttl_frame, proofs.Layering.layers_after_ttl}
 use Rattle.of_rewrite.proofs.Looking.{field_kept}
-use Rattle.of_frames.specs.declared.shape.Shape.{Shape}
-use Rattle.of_frames.specs.declared.shape.Shape.TheVariants as shapes
-use Rattle.of_frames.specs.declared.shape.Tagging.{Tagging}
-use Rattle.of_frames.specs.declared.shape.Tagging.TheVariants.{Untagged, Tagged}
-use Rattle.of_frames.specs.Rules.{has_header, protocol_of, shape_type}
 use Rattle.of_frames.specs.Given.{given_number, or_zero, fields_given, vlan_vid_given, vlan_pcp_given}
-use Rattle.of_frames.proofs.FrameLemmas.{given_fields, given_frame}
-use Rattle.of_oxm.specs.declared.match_field.MatchField.{MatchField}
-use Rattle.of_oxm.specs.Relations.{agrees, first_difference as missed, matches_map}
-use Rattle.of_ovs_words.specs.declared.why.Why.{Why as WordWhy}
-use Rattle.of_ovs_words.specs.Outcomes.{◌>>=◌, numbered}
-use Rattle.of_ovs_words.specs.Words.{word_value, words_from}
+use Rattle.of_frames.specs.{declared.shape.Shape.Shape, declared.shape.Tagging.Tagging, declared.shape.Tagging.TheVariants.Untagged, declared.shape.Tagging.TheVariants.Tagged}
+use Rattle.of_frames.{specs.Rules.has_header, specs.Rules.protocol_of, specs.Rules.shape_type, proofs.FrameLemmas.given_fields, proofs.FrameLemmas.given_frame}
+use Rattle.of_frames.specs.declared.shape.Shape.TheVariants as shapes
+use Rattle.of_oxm.specs.{declared.match_field.MatchField.MatchField, Relations.agrees, Relations.first_difference as missed, Relations.matches_map}
+use Rattle.of_ovs_words.specs.{declared.why.Why.Why as WordWhy, Outcomes.◌>>=◌, Outcomes.numbered, Words.word_value, Words.words_from}
 use Rattle.of_frame_words.specs.Frames.{ReceivedFrame, Has, IsDefault, at_port, with_setting, set_by, shape_by, tagging_by, received_by, received_frame, map_of, unless_missed, checked, frame_in_words, is_unsaid, with_ttl, with_ttl_said, with_ttl_word, with_ttl_words}
 use Rattle.of_frame_words.specs.Said.{WordRefusal, is_ttl_word, with_setting_words}
 

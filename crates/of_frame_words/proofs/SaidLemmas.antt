@@ -1,32 +1,15 @@
 -- The fields that settings say, and the frame with these.
 use Rattle.std.proofs.Common.{◌≡◌, ℕ, ◌+◌, ◌<◌, ◌≤◌, false, cond, List, [], length, drop, get_or, Option, Some, None, Result, Ok, Err, refl, sym, subst, ap, ◌∙◌, drop_of_length-le}
-use Rattle.std.specs.Prelude.{◌==◌, bit_and, IfErr}
-use Rattle.std.proofs.Math.Path.{fun_ext}
-use Rattle.std.proofs.lemmas.List.{drop_more}
-use Rattle.of_layers.specs.declared.field.Field.{Field}
-use Rattle.of_layers.specs.declared.field.Field.TheVariants.{InPort}
-use Rattle.of_layers.specs.Fields.{row_of, number_of, ones_of}
-use Rattle.of_headers.specs.declared.key.FieldKey.{FieldKey}
-use Rattle.of_headers.specs.FieldMap.{value}
-use Rattle.of_rewrite.specs.Frames.{frame_ttl}
-use Rattle.of_rewrite.proofs.Framing.{ttl_frame}
-use Rattle.of_frames.specs.declared.shape.Shape.{Shape}
-use Rattle.of_frames.specs.declared.shape.Tagging.{Tagging}
-use Rattle.of_frames.specs.Given.{number, or_zero}
-use Rattle.of_frames.specs.Packets.{frame_given}
-use Rattle.of_frames.proofs.KeyLemmas.{numbers_are}
-use Rattle.of_oxm.specs.declared.match_field.MatchField.{MatchField}
-use Rattle.of_ovs_words.specs.FieldWords.{text_for}
-use Rattle.of_ovs_words.specs.Outcomes.{◌>>=◌}
-use Rattle.of_ovs_words.specs.Words.{after_word, word_in, words_from}
-use Rattle.of_ovs_words.proofs.WordLemmas.{first_word}
-use Rattle.of_frame_words.specs.declared.why.NoFrame.{NoFrame}
-use Rattle.of_frame_words.specs.declared.why.NoFrame.TheVariants.{NoMemory, Refused}
-use Rattle.of_oxm.specs.Relations.{first_difference as missed}
+use Rattle.std.{specs.Prelude.◌==◌, specs.Prelude.bit_and, specs.Prelude.IfErr, proofs.Math.Path.fun_ext, proofs.lemmas.List.drop_more}
+use Rattle.of_layers.specs.{declared.field.Field.Field, declared.field.Field.TheVariants.InPort, Fields.row_of, Fields.number_of, Fields.ones_of}
+use Rattle.of_headers.specs.{declared.key.FieldKey.FieldKey, FieldMap.value}
+use Rattle.of_rewrite.{specs.Frames.frame_ttl, proofs.Framing.ttl_frame}
+use Rattle.of_frames.{specs.declared.shape.Shape.Shape, specs.declared.shape.Tagging.Tagging, specs.Given.number, specs.Given.or_zero, specs.Packets.frame_given, proofs.KeyLemmas.numbers_are}
+use Rattle.of_oxm.specs.{declared.match_field.MatchField.MatchField, Relations.first_difference as missed}
+use Rattle.of_ovs_words.{specs.FieldWords.text_for, specs.Outcomes.◌>>=◌, specs.Words.after_word, specs.Words.word_in, specs.Words.words_from, proofs.WordLemmas.first_word}
 use Rattle.of_frame_words.specs.Frames.{IsReadable, ReceivedFrame, at_port, with_setting, set_by, shape_by, tagging_by, received_frame, received_by, frame_in_words, map_of, why_missed, unless_missed, checked, with_ttl_word, with_ttl_words}
-use Rattle.of_frame_words.specs.Refusals.{IsRefusal, FrameStops}
-use Rattle.of_frame_words.specs.Said.{WordRefusal, with_setting_words}
-use Rattle.of_frame_words.proofs.WordLemmas.{refusal_stops}
+use Rattle.of_frame_words.specs.{declared.why.NoFrame.NoFrame, declared.why.NoFrame.TheVariants.NoMemory, declared.why.NoFrame.TheVariants.Refused, Refusals.IsRefusal, Refusals.FrameStops}
+use Rattle.of_frame_words.{specs.Said.WordRefusal, specs.Said.with_setting_words, proofs.WordLemmas.refusal_stops}
 
 -- the port alone
 pub key_at_is : (port : ℕ) (none map : Field → Option ℕ) → ((f : Field) → none f ≡ None) → ((f : Field) → map f ≡ cond (number_of f == number_of InPort) (Some port) (none f)) → map ≡ at_port port

@@ -1,17 +1,10 @@
 -- Words for a frame, one after the other.
 use Rattle.std.proofs.Common.{◌≡◌, ℕ, ◌<◌, sym, Bool, true, false, cond, List, [], length, Result, Ok, Err, refl, ap, ◌∙◌, subst}
 use Rattle.of_oxm.specs.declared.match_field.MatchField.{MatchField}
-use Rattle.of_ovs_words.specs.declared.why.Why.{Why as WordWhy}
-use Rattle.of_ovs_words.specs.Outcomes.{◌>>=◌}
-use Rattle.of_ovs_words.specs.Words.{words_from, word_in, after_word}
-use Rattle.of_ovs_words.proofs.WordLemmas.{first_word}
-use Rattle.of_frame_words.specs.declared.why.Why.{Why}
-use Rattle.of_frame_words.specs.declared.why.Why.TheVariants.{Word, Mask}
-use Rattle.of_frame_words.specs.declared.why.Refusal.{Refusal}
-use Rattle.of_frame_words.specs.declared.why.NoFrame.{NoFrame}
-use Rattle.of_frame_words.specs.declared.why.NoFrame.TheVariants.{NoMemory, Refused}
-use Rattle.of_frame_words.specs.Refusals.{IsRefusal, FrameStops, view_word_refusal}
+use Rattle.of_ovs_words.{specs.declared.why.Why.Why as WordWhy, specs.Outcomes.◌>>=◌, specs.Words.words_from, specs.Words.word_in, specs.Words.after_word, proofs.WordLemmas.first_word}
 use Rattle.of_frame_words.specs.Said.{WordRefusal, refuse, word_said, of_word, is_masked_amiss, sets_no_field, with_setting_word, with_setting_words}
+use Rattle.of_frame_words.specs.{declared.why.Why.Why, declared.why.Why.TheVariants.Word, declared.why.Why.TheVariants.Mask, declared.why.Refusal.Refusal, declared.why.NoFrame.NoFrame}
+use Rattle.of_frame_words.specs.{declared.why.NoFrame.TheVariants.NoMemory, declared.why.NoFrame.TheVariants.Refused, Refusals.IsRefusal, Refusals.FrameStops, Refusals.view_word_refusal}
 
 -- ---- refusals
 

@@ -1,18 +1,9 @@
 -- CONDITIONS IN WORDS: a match of these words (ovs-fields(7)), as a flow of the switch may have it (OpenFlow 1.3.5, 7.2.3.5 and 7.2.3.6).
 use Rattle.std.specs.Prelude.{ℕ, ◌==◌, ◌&&◌, ◌||◌, not, Bool, true, List, [], find, bit_and, Option, Some, None, Result, Ok, if◌then◌else◌}
 use Rattle.of_layers.specs.Fields.{is_maskable, ones_of, prerequisite_of}
-use Rattle.of_oxm.specs.declared.match_field.MatchField.{MatchField}
-use Rattle.of_oxm.specs.Prerequisites.{is_met}
-use Rattle.of_oxm.specs.Relations.{bits_looked_at}
-use Rattle.of_ovs_words.specs.declared.why.Why.TheVariants.{Value}
-use Rattle.of_ovs_words.specs.FieldWords.{text_for}
-use Rattle.of_ovs_words.specs.Matches.{fields_of_settings}
-use Rattle.of_ovs_words.specs.Outcomes.{◌>>=◌}
-use Rattle.of_ovs_words.specs.Words.{words_from}
-use Rattle.of_frame_words.specs.declared.why.Why.{Why}
-use Rattle.of_frame_words.specs.declared.why.Why.TheVariants.{Word}
-use Rattle.of_frame_words.specs.Frames.{word_why_missing}
-use Rattle.of_frame_words.specs.Said.{WordRefusal, refuse, with_setting_words}
+use Rattle.of_oxm.specs.{declared.match_field.MatchField.MatchField, Prerequisites.is_met, Relations.bits_looked_at}
+use Rattle.of_ovs_words.specs.{declared.why.Why.TheVariants.Value, FieldWords.text_for, Matches.fields_of_settings, Outcomes.◌>>=◌, Words.words_from}
+use Rattle.of_frame_words.specs.{declared.why.Why.Why, declared.why.Why.TheVariants.Word, Frames.word_why_missing, Said.WordRefusal, Said.refuse, Said.with_setting_words}
 
 -- it looks at bits of the field only, at all of them if the field takes no mask, and asks for no others
 abbrev pub is_proper : MatchField → Bool

@@ -1,10 +1,8 @@
 -- FIELDS AS A FLOW MAY HAVE THEM: each with a mask that is kept, in ascending order of number, with their prerequisites (OpenFlow 1.3.5, 7.2.3.5 and 7.2.3.6).
 use Rattle.std.specs.Prelude.{ℕ, ◌==◌, ◌&&◌, nat_lt, nat_le, Bool, true, List, [], ◌∷◌, bit_and, Option, Some, None}
 use Rattle.std.specs.List.{list_all}
-use Rattle.of_layers.specs.declared.field.Field.{Field}
-use Rattle.of_layers.specs.Fields.{is_maskable, number_of, ones_of}
-use Rattle.of_oxm.specs.declared.match_field.MatchField.{MatchField}
-use Rattle.of_oxm.specs.Prerequisites.{prerequisites_met}
+use Rattle.of_layers.specs.{declared.field.Field.Field, Fields.is_maskable, Fields.number_of, Fields.ones_of}
+use Rattle.of_oxm.specs.{declared.match_field.MatchField.MatchField, Prerequisites.prerequisites_met}
 
 -- some bits of the field and not all, and no others; and the value has no bit outside
 abbrev pub is_kept_mask : Field → ℕ → Option ℕ → Bool

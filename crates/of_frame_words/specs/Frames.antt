@@ -3,29 +3,17 @@ use Rattle.std.specs.Prelude.{◌≡◌, ◌⊎◌, ℕ, ◌<◌, ◌^◌, ◌==
 use Rattle.std.specs.List.{list_any}
 use Rattle.of_layers.specs.declared.field.Field.{Field}
 use Rattle.of_layers.specs.declared.field.Field.TheVariants.{InPort, EthType, VlanVid, IpProto}
-use Rattle.of_layers.specs.declared.field.Prerequisite.{Prerequisite}
+use Rattle.of_layers.specs.{declared.field.Prerequisite.Prerequisite, Fields.number_of, Fields.ones_of, Fields.prerequisite_of, Reading.layers_of}
 use Rattle.of_layers.specs.declared.field.Prerequisite.TheVariants as needs
-use Rattle.of_layers.specs.Fields.{number_of, ones_of, prerequisite_of}
-use Rattle.of_layers.specs.Reading.{layers_of}
 use Rattle.of_headers.specs.FieldMap.{field_map}
-use Rattle.of_rewrite.specs.Frames.{IsFrame, frame_ttl}
-use Rattle.of_rewrite.specs.TimeToLive.{ttl_of}
-use Rattle.of_frames.specs.declared.shape.Shape.{Shape}
-use Rattle.of_frames.specs.declared.shape.Shape.TheVariants as shapes
-use Rattle.of_frames.specs.declared.shape.Tagging.{Tagging}
-use Rattle.of_frames.specs.declared.shape.Tagging.TheVariants.{Untagged, Tagged}
-use Rattle.of_frames.specs.Given.{or_zero}
+use Rattle.of_rewrite.specs.{Frames.IsFrame, Frames.frame_ttl, TimeToLive.ttl_of}
+use Rattle.of_frames.specs.{declared.shape.Shape.Shape, declared.shape.Tagging.Tagging, declared.shape.Tagging.TheVariants.Untagged, declared.shape.Tagging.TheVariants.Tagged, Given.or_zero}
 use Rattle.of_frames.specs.Packets.{frame_given}
-use Rattle.of_oxm.specs.declared.match_field.MatchField.{MatchField}
-use Rattle.of_oxm.specs.Prerequisites.{is_met}
-use Rattle.of_oxm.specs.Relations.{first_difference, matches_map}
-use Rattle.of_ovs_words.specs.declared.why.Why.{Why as WordWhy}
+use Rattle.of_frames.specs.declared.shape.Shape.TheVariants as shapes
+use Rattle.of_oxm.specs.{declared.match_field.MatchField.MatchField, Prerequisites.is_met, Relations.first_difference, Relations.matches_map}
+use Rattle.of_ovs_words.specs.{declared.why.Why.Why as WordWhy, FieldWords.text_for, Outcomes.◌>>=◌, Outcomes.numbered, Words.word_value, Words.words_from}
 use Rattle.of_ovs_words.specs.declared.why.Why.TheVariants as words
-use Rattle.of_ovs_words.specs.FieldWords.{text_for}
-use Rattle.of_ovs_words.specs.Outcomes.{◌>>=◌, numbered}
-use Rattle.of_ovs_words.specs.Words.{word_value, words_from}
-use Rattle.of_frame_words.specs.declared.why.Why.{Why}
-use Rattle.of_frame_words.specs.declared.why.Why.TheVariants.{Word, Impossible}
+use Rattle.of_frame_words.specs.{declared.why.Why.Why, declared.why.Why.TheVariants.Word, declared.why.Why.TheVariants.Impossible}
 use Rattle.of_frame_words.specs.Said.{WordRefusal, is_ttl_word, refuse, with_setting_words}
 
 -- ---- the fields that settings say

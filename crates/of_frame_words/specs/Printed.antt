@@ -1,21 +1,16 @@
 -- A FRAME AS WORDS: the port, the protocol, the other fields that are not 0, and a TTL that is not 64; if these words are read as that frame.
 use Rattle.std.specs.Prelude.{◌≡◌, ℕ, ◌==◌, ◌&&◌, nat_le, nat_lt, Bool, false, List, [], ◌∷◌, ◌++◌, length, codes, decimal, Option, Some, None, Result, Ok, Err, if◌then◌else◌}
-use Rattle.std.specs.List.{flat_map}
-use Rattle.std.specs.Str.{bytes_eq}
-use Rattle.of_layers.specs.declared.field.Field.{Field}
-use Rattle.of_layers.specs.declared.field.Field.TheVariants.{EthType, IpDscp, IpProto}
+use Rattle.std.specs.{List.flat_map, Str.bytes_eq}
+use Rattle.of_layers.specs.{declared.field.Field.Field, declared.field.Field.TheVariants.EthType, declared.field.Field.TheVariants.IpDscp, declared.field.Field.TheVariants.IpProto}
 use Rattle.of_layers.specs.Reading.{layers_of}
 use Rattle.of_headers.specs.FieldMap.{field_map}
 use Rattle.of_rewrite.specs.TimeToLive.{ttl_of}
-use Rattle.of_frames.specs.declared.shape.Shape.{Shape}
+use Rattle.of_frames.specs.{declared.shape.Shape.Shape, Given.or_zero}
 use Rattle.of_frames.specs.declared.shape.Shape.TheVariants as shapes
-use Rattle.of_frames.specs.Given.{or_zero}
 use Rattle.of_actions.specs.PortNumbers.{is_number}
 use Rattle.of_values.specs.Values.{value_words}
 use Rattle.of_ovs_words.specs.FieldWords.{text_for}
-use Rattle.of_frame_words.specs.declared.printed.TheConstants.{FURTHER_FIELDS}
-use Rattle.of_frame_words.specs.Frames.{ReceivedFrame, frame_in_words, shape_by}
-use Rattle.of_frame_words.specs.Said.{WordRefusal}
+use Rattle.of_frame_words.specs.{declared.printed.TheConstants.FURTHER_FIELDS, Frames.ReceivedFrame, Frames.frame_in_words, Frames.shape_by, Said.WordRefusal}
 
 -- ---- one field: `,nw_src=10.0.0.1`; nothing if it is 0, as fields are of which no word says anything
 

@@ -1,10 +1,7 @@
 -- Why there is no frame: memory ran out, or a word is refused.
 use Rattle.std.specs.Prelude.{◌≡◌, ℕ, List, Result, Err}
-use Rattle.of_frame_words.specs.declared.why.Why.{Why}
-use Rattle.of_frame_words.specs.declared.why.Refusal.{Refusal}
-use Rattle.of_frame_words.specs.declared.why.NoFrame.{NoFrame}
-use Rattle.of_frame_words.specs.declared.why.NoFrame.TheVariants.{NoMemory, Refused}
-use Rattle.of_frame_words.specs.Said.{WordRefusal}
+use Rattle.of_frame_words.specs.{declared.why.Why.Why, declared.why.Refusal.Refusal, declared.why.NoFrame.NoFrame}
+use Rattle.of_frame_words.specs.{declared.why.NoFrame.TheVariants.NoMemory, declared.why.NoFrame.TheVariants.Refused, Said.WordRefusal}
 
 abbrev pub view_word_refusal : Refusal → WordRefusal
 view_word_refusal r = record { word = r.word.items; why = r.why }

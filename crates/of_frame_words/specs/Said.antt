@@ -1,19 +1,11 @@
 -- WHAT WORDS SAY OF A FRAME OR OF A MATCH (ovs-fields(7)): settings of fields, in the order of the words. A frame has values without masks.
 use Rattle.std.specs.Prelude.{ℕ, ◌==◌, ◌||◌, ◌&&◌, not, Bool, is_some, List, [], ◌∷◌, codes, length, Option, Some, None, Result, Ok, Err, if◌then◌else◌}
-use Rattle.std.specs.List.{list_any}
-use Rattle.std.specs.Str.{bytes_eq}
+use Rattle.std.specs.{List.list_any, Str.bytes_eq}
 use Rattle.of_oxm.specs.declared.match_field.MatchField.{MatchField}
-use Rattle.of_ovs_words.specs.declared.why.Why.{Why as WordWhy}
-use Rattle.of_ovs_words.specs.declared.why.Why.TheVariants.{Unknown}
-use Rattle.of_ovs_words.specs.declared.field_word.FieldWord.{FieldWord}
-use Rattle.of_ovs_words.specs.declared.protocol_word.ProtocolWord.{ProtocolWord}
-use Rattle.of_ovs_words.specs.FieldWords.{field_word_named}
-use Rattle.of_ovs_words.specs.Matches.{with_match_field, with_protocol}
-use Rattle.of_ovs_words.specs.Outcomes.{◌>>=◌}
-use Rattle.of_ovs_words.specs.ProtocolWords.{protocol_named}
+use Rattle.of_ovs_words.specs.{declared.why.Why.Why as WordWhy, declared.why.Why.TheVariants.Unknown, declared.field_word.FieldWord.FieldWord, declared.protocol_word.ProtocolWord.ProtocolWord}
+use Rattle.of_ovs_words.specs.{FieldWords.field_word_named, Matches.with_match_field, Matches.with_protocol, Outcomes.◌>>=◌, ProtocolWords.protocol_named}
 use Rattle.of_ovs_words.specs.Words.{word_name, word_value, word_in}
-use Rattle.of_frame_words.specs.declared.why.Why.{Why}
-use Rattle.of_frame_words.specs.declared.why.Why.TheVariants.{Word, Mask}
+use Rattle.of_frame_words.specs.{declared.why.Why.Why, declared.why.Why.TheVariants.Word, declared.why.Why.TheVariants.Mask}
 
 -- a word that is refused, and why
 pub record WordRefusal : Type 0 where

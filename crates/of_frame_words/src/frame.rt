@@ -2,8 +2,7 @@
 ghost use Rattle.std.specs.Prelude.{◌≡◌, IfOk, IfErr, Ok};
 ghost use Rattle.of_ovs_words.specs.Words.{words_from};
 ghost use Rattle.of_frame_words.specs.Frames.{IsReadable, checked as checked_so, frame_in_words, received_frame as received_so, with_ttl_word as with_ttl_word_so, with_ttl_words as with_ttl_words_so};
-ghost use Rattle.of_frame_words.specs.Refusals.{FrameStops};
-ghost use Rattle.of_frame_words.specs.Views.{view_received};
+ghost use Rattle.of_frame_words.specs.{Refusals.FrameStops, Views.view_received};
 
 use crate::said::{key_said, shape_of, tagging_of, why_missed};
 use crate::why::{NoFrame, Why, refuse};

@@ -3,8 +3,8 @@ ghost use Rattle.std.specs.Prelude.{◌≡◌, ◌≤◌, ◌<◌, ◌^◌, ◌+
 ghost use Rattle.std.specs.List.{flat_map};
 ghost use Rattle.of_headers.specs.FieldMap.{value as value_in};
 ghost use Rattle.of_frames.specs.Given.{or_zero};
-ghost use Rattle.of_frame_words.specs.Frames.{frame_in_words};
 ghost use Rattle.of_frame_words.specs.Printed.{AreRead, field_said, frame_words_of, is_read_as, printed_word as printed_word_of, protocol_said, shape_said, some_if, ttl_said, words_for, words_with};
+ghost use Rattle.of_frame_words.specs.Frames.{frame_in_words};
 
 use crate::frame::read_frame;
 use crate::said::shape_of;

@@ -1,7 +1,6 @@
 //! Why words say no frame, or no match.
 ghost use Rattle.std.specs.Prelude.{◌≡◌};
-ghost use Rattle.of_frame_words.specs.declared.why.NoFrame.TheVariants.{NoMemory};
-ghost use Rattle.of_frame_words.specs.Refusals.{IsRefusal};
+ghost use Rattle.of_frame_words.specs.{declared.why.NoFrame.TheVariants.NoMemory, Refusals.IsRefusal};
 
 use std::alloc::{AllocError, Global};
 use thiserror::Error;

@@ -1,9 +1,8 @@
 //! The settings of fields that words say of a frame, or of a match.
 ghost use Rattle.std.specs.Prelude.{◌≡◌, IfOk, IfErr, Ok};
-ghost use Rattle.of_ovs_words.specs.Stops.{Stops as WordStops};
-ghost use Rattle.of_ovs_words.specs.Words.{words_from};
-ghost use Rattle.of_frame_words.specs.Refusals.{FrameStops};
+ghost use Rattle.of_ovs_words.specs.{Stops.Stops as WordStops, Words.words_from};
 ghost use Rattle.of_frame_words.specs.Said.{are_frame_words, by_name, has_mask as is_masked, has_value as has_a_value, is_masked_amiss, is_ttl_word as is_a_ttl_word, sets_no_field as is_passed_over, word_said, with_setting_word, with_setting_words};
+ghost use Rattle.of_frame_words.specs.Refusals.{FrameStops};
 
 use crate::why::{NoFrame, Why, refuse};
 use of_lines::is;

@@ -1,10 +1,8 @@
 -- Bytes that grow by bits.
 use Rattle.std.proofs.Common.{◌≡◌, ℕ, ◌+◌, ◌*◌, ◌/◌, ◌%◌, ◌^◌, ◌<◌, List, [], ◌∷◌, ◌++◌, refl, sym, ap, ◌∙◌, arith, append_assoc, subst}
 use Rattle.std.proofs.lemmas.List.{append-nil}
-use Rattle.of_layers.specs.declared.field.Field.TheVariants.{IpProto}
-use Rattle.of_layers.specs.Bits.{bits, bits_of}
 use Rattle.of_layers.specs.Layers.{Cell, Carried, Ipv4, Ipv6, Layers, addresses, ipv4, ipv6, named, ether_type, cells_in, carried_cells, tag_cells, body_cells, cells, encoded}
-use Rattle.of_layers.proofs.BitLemmas.{bits_parts, bits_cut, bits_of-append}
+use Rattle.of_layers.{specs.declared.field.Field.TheVariants.IpProto, specs.Bits.bits, specs.Bits.bits_of, proofs.BitLemmas.bits_parts, proofs.BitLemmas.bits_cut, proofs.BitLemmas.bits_of-append}
 use Rattle.of_layers.proofs.EncodingLemmas.{encoded-append}
 use Rattle.of_frames.specs.Adding.{Adds}
 

@@ -1,18 +1,10 @@
 -- The layers with given fields have these fields, and no others.
-use Rattle.std.proofs.Common.{◌≡◌, ℕ, ◌*◌, refl}
-use Rattle.std.proofs.Math.Path.{fun_ext}
-use Rattle.of_layers.specs.declared.field.Field.{Field}
-use Rattle.of_layers.specs.declared.field.Field.TheVariants.{InPort}
-use Rattle.of_layers.specs.Fields.{row_of}
-use Rattle.of_layers.specs.Layers.{cells}
-use Rattle.of_headers.specs.FieldMap.{field_map}
-use Rattle.of_headers.specs.Places.{width}
-use Rattle.of_frames.specs.declared.shape.Shape.{Shape}
-use Rattle.of_frames.specs.declared.shape.Shape.TheVariants as shapes
-use Rattle.of_frames.specs.declared.shape.Tagging.{Tagging}
-use Rattle.of_frames.specs.declared.shape.Tagging.TheVariants.{Untagged, Tagged}
-use Rattle.of_frames.specs.Given.{fields_given}
+use Rattle.std.proofs.{Common.◌≡◌, Common.ℕ, Common.◌*◌, Common.refl, Math.Path.fun_ext}
+use Rattle.of_layers.specs.{declared.field.Field.Field, declared.field.Field.TheVariants.InPort, Fields.row_of, Layers.cells}
+use Rattle.of_headers.specs.{FieldMap.field_map, Places.width}
+use Rattle.of_frames.specs.{declared.shape.Shape.Shape, declared.shape.Tagging.Tagging, declared.shape.Tagging.TheVariants.Untagged, declared.shape.Tagging.TheVariants.Tagged, Given.fields_given}
 use Rattle.of_frames.specs.Packets.{layers_given, frame_size}
+use Rattle.of_frames.specs.declared.shape.Shape.TheVariants as shapes
 
 -- ---- fields, shape by shape
 

@@ -1,22 +1,16 @@
 -- The layers with given fields are layers that a frame can have.
 use Rattle.std.proofs.Common.{◌≡◌, ℕ, zero, suc, ◌+◌, ◌-◌, ◌^◌, ◌<◌, ◌≤◌, min, Bool, true, false, cond, ◌&&◌, [], ◌∷◌, length, refl, arith}
-use Rattle.std.specs.Prelude.{◌||◌, ◌==◌, nat_le}
-use Rattle.std.proofs.lemmas.Nat.{pow_pos, mod_below}
-use Rattle.of_layers.specs.declared.field.Field.{Field}
+use Rattle.std.{specs.Prelude.◌||◌, specs.Prelude.◌==◌, specs.Prelude.nat_le, proofs.lemmas.Nat.pow_pos, proofs.lemmas.Nat.mod_below}
 use Rattle.of_layers.specs.declared.field.Field.TheVariants.{EthDst, EthSrc, EthType, VlanPcp, IpDscp, IpEcn, IpProto, Ipv4Src, Ipv4Dst, TcpSrc, TcpDst, UdpSrc, UdpDst, Icmpv4Type, Icmpv4Code, ArpOp, ArpSpa, ArpTpa, ArpSha, ArpTha, Ipv6Src, Ipv6Dst, Ipv6Flabel, Icmpv6Type, Icmpv6Code}
-use Rattle.of_layers.specs.declared.transport.Transport.{Transport}
 use Rattle.of_layers.specs.declared.transport.Transport.TheVariants.{Nothing, Tcp, Udp, Icmpv4, Icmpv6}
-use Rattle.of_layers.specs.Fields.{row_of, bit_count}
-use Rattle.of_layers.specs.Layers.{items_of, addresses, body_cells, encoded}
 use Rattle.of_layers.specs.Reading.{is_tag_type, over_ipv4, over_ipv6, whole_in, has_extension, is_fragment, has_options, extension_size}
 use Rattle.of_layers.specs.WellFormed.{AreBytes, FitsItems, AreTags, carried_size, IsArp, IsIpv4, IsIpv6, IsBody, IsLayers, has_packet}
-use Rattle.of_frames.specs.declared.shape.Shape.{Shape}
-use Rattle.of_frames.specs.declared.shape.Shape.TheVariants as shapes
-use Rattle.of_frames.specs.declared.shape.Tagging.{Tagging}
-use Rattle.of_frames.specs.declared.shape.Tagging.TheVariants.{Untagged, Tagged}
-use Rattle.of_frames.specs.Given.{given_number, type_given}
+use Rattle.of_layers.specs.{declared.field.Field.Field, declared.transport.Transport.Transport, Fields.row_of, Fields.bit_count, Layers.items_of, Layers.addresses, Layers.body_cells, Layers.encoded}
 use Rattle.of_frames.specs.Checksums.{protocol_with, size_with, ipv4_sum, ipv6_sum, carried_checksum}
 use Rattle.of_frames.specs.Packets.{ends_given, tags_given, arp_given, ipv4_given, ipv6_given, numbers_given, bytes_behind, carried_given, body_given, layers_given}
+use Rattle.of_frames.specs.{declared.shape.Shape.Shape, declared.shape.Tagging.Tagging, declared.shape.Tagging.TheVariants.Untagged, declared.shape.Tagging.TheVariants.Tagged}
+use Rattle.of_frames.specs.Given.{given_number, type_given}
+use Rattle.of_frames.specs.declared.shape.Shape.TheVariants as shapes
 
 -- ---- numbers within their bits
 

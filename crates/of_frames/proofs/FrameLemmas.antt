@@ -1,22 +1,11 @@
 -- The frame with given fields.
 use Rattle.std.proofs.Common.{◌≡◌, ℕ, ◌*◌, ◌/◌, List, length, sym, ap, ◌∙◌, arith, subst}
-use Rattle.of_layers.specs.Bits.{bits_of}
-use Rattle.of_layers.specs.declared.field.Field.{Field}
-use Rattle.of_layers.specs.Layers.{Layers, cells, encoded}
-use Rattle.of_layers.specs.Reading.{layers_of}
-use Rattle.of_layers.specs.WellFormed.{AreBytes}
+use Rattle.of_layers.specs.{Bits.bits_of, declared.field.Field.Field, Layers.Layers, Layers.cells, Layers.encoded, Reading.layers_of, WellFormed.AreBytes}
 use Rattle.of_layers.proofs.FrameLemmas.{only_layers}
-use Rattle.of_headers.specs.FieldMap.{field_map}
-use Rattle.of_headers.specs.Places.{width}
-use Rattle.of_rewrite.specs.Frames.{IsFrame}
-use Rattle.of_rewrite.proofs.Framing.{bytes_are, bytes_below, length_in}
-use Rattle.of_frames.specs.declared.shape.Shape.{Shape}
-use Rattle.of_frames.specs.declared.shape.Tagging.{Tagging}
-use Rattle.of_frames.specs.Given.{fields_given}
-use Rattle.of_frames.specs.Packets.{layers_given, frame_given, frame_size}
-use Rattle.of_frames.proofs.FitLemmas.{layers_fit}
-use Rattle.of_frames.proofs.FieldLemmas.{fields_are, width_is}
-use Rattle.of_frames.proofs.OctetLemmas.{bits_back}
+use Rattle.of_headers.specs.{FieldMap.field_map, Places.width}
+use Rattle.of_rewrite.{specs.Frames.IsFrame, proofs.Framing.bytes_are, proofs.Framing.bytes_below, proofs.Framing.length_in}
+use Rattle.of_frames.specs.{declared.shape.Shape.Shape, declared.shape.Tagging.Tagging, Given.fields_given, Packets.layers_given, Packets.frame_given, Packets.frame_size}
+use Rattle.of_frames.proofs.{FitLemmas.layers_fit, FieldLemmas.fields_are, FieldLemmas.width_is, OctetLemmas.bits_back}
 
 -- bytes that encode the layers with given fields are that frame
 pub frame_is : (s : Shape) (t : Tagging) (v : Field → ℕ) (frame : List ℕ) → AreBytes frame → bits_of frame ≡ encoded (cells (layers_given s t v)) → frame ≡ frame_given s t v

@@ -1,14 +1,8 @@
 -- The numbers of a key are the values of its fields, and 0 for those that it lacks.
 use Rattle.std.proofs.Common.{◌≡◌, ℕ, zero, suc, ◌<◌, ◌/◌, ◌^◌, cond, Some, None, refl, arith}
-use Rattle.std.specs.Prelude.{◌==◌, slice_index, unwrap_or}
-use Rattle.std.specs.Int.{bit_at}
-use Rattle.std.proofs.Math.Path.{fun_ext}
-use Rattle.std.proofs.lemmas.Nat.{mod_below}
-use Rattle.of_layers.specs.declared.field.Field.{Field}
-use Rattle.of_layers.specs.Fields.{number_of}
-use Rattle.of_headers.specs.declared.key.FieldKey.{FieldKey}
-use Rattle.of_headers.specs.FieldMap.{value}
-use Rattle.of_headers.specs.Numbers.{numbers_in}
+use Rattle.std.{specs.Prelude.◌==◌, specs.Prelude.slice_index, specs.Prelude.unwrap_or, specs.Int.bit_at, proofs.Math.Path.fun_ext, proofs.lemmas.Nat.mod_below}
+use Rattle.of_layers.specs.{declared.field.Field.Field, Fields.number_of}
+use Rattle.of_headers.specs.{declared.key.FieldKey.FieldKey, FieldMap.value, Numbers.numbers_in}
 use Rattle.of_frames.specs.Given.{number, or_zero}
 
 -- a number that is 0 unless its bit is set

@@ -1,23 +1,15 @@
 -- Packets of which something is known that has a shape.
 use Rattle.std.proofs.Common.{◌≡◌, ℕ, ◌+◌, ◌-◌, ◌*◌, ◌/◌, ◌%◌, ◌^◌, ◌<◌, ◌≤◌, Bool, true, false, cond, Option, Some, None, refl, sym, ap, ◌∙◌, arith, subst, inl, inr}
-use Rattle.std.specs.Prelude.{bit_and, unwrap_or, IfSome}
-use Rattle.std.proofs.lemmas.Nat.{pow_pos, and_mask}
-use Rattle.std.proofs.lemmas.Nat.Bits.{and_pow}
+use Rattle.std.{specs.Prelude.bit_and, specs.Prelude.unwrap_or, specs.Prelude.IfSome, proofs.lemmas.Nat.pow_pos, proofs.lemmas.Nat.and_mask, proofs.lemmas.Nat.Bits.and_pow}
 use Rattle.std.proofs.Math.Nat.{mod-eq_of_lt}
-use Rattle.of_layers.specs.declared.field.Field.{Field}
 use Rattle.of_layers.specs.declared.field.Field.TheVariants.{InPort, Metadata, EthType, VlanVid, VlanPcp, IpProto}
+use Rattle.of_layers.specs.{declared.field.Field.Field, Fields.row_of, Fields.bit_count, Fields.ones_of, Fields.prerequisite_of, Reading.layers_of}
 use Rattle.of_layers.specs.declared.field.Prerequisite.TheVariants as needs
-use Rattle.of_layers.specs.Fields.{row_of, bit_count, ones_of, prerequisite_of}
-use Rattle.of_layers.specs.Reading.{layers_of}
 use Rattle.of_headers.specs.FieldMap.{field_map, seen}
-use Rattle.of_frames.specs.declared.shape.Shape.{Shape}
-use Rattle.of_frames.specs.declared.shape.Tagging.{Tagging}
-use Rattle.of_frames.specs.declared.shape.Tagging.TheVariants.{Untagged, Tagged}
-use Rattle.of_frames.specs.declared.shape.Rule.TheVariants.{Absent, Under}
 use Rattle.of_frames.specs.Rules.{Obeys, HasShape, IsTagging, has_header, of_tagging, protocol_of, shape_type, valued}
 use Rattle.of_frames.specs.Given.{given_number, or_zero, fields_given, vlan_vid_given, vlan_pcp_given}
-use Rattle.of_frames.specs.Knowing.{AreWithinBits, IsAmong, IsKnown}
-use Rattle.of_frames.specs.Packets.{frame_given}
+use Rattle.of_frames.specs.{declared.shape.Shape.Shape, declared.shape.Tagging.Tagging, declared.shape.Tagging.TheVariants.Untagged, declared.shape.Tagging.TheVariants.Tagged}
+use Rattle.of_frames.specs.{declared.shape.Rule.TheVariants.Absent, declared.shape.Rule.TheVariants.Under, Knowing.AreWithinBits, Knowing.IsAmong, Knowing.IsKnown, Packets.frame_given}
 use Rattle.of_frames.proofs.FrameLemmas.{given_fields}
 
 -- ---- values within the bits of a field

@@ -1,14 +1,10 @@
 -- The bits of the bytes that cells encode are those of the cells, if they fill whole bytes.
 use Rattle.std.proofs.Common.{◌≡◌, ℕ, zero, suc, ◌+◌, ◌*◌, ◌/◌, ◌^◌, ◌<◌, List, [], ◌∷◌, ◌++◌, length, take, drop, refl, sym, ap, ◌∙◌, arith}
 use Rattle.std.proofs.lemmas.List.{length-take-le, length-drop, take-append-drop}
-use Rattle.of_layers.specs.Bits.{bits, bits_of}
-use Rattle.of_layers.specs.Layers.{Cell, encoded}
-use Rattle.of_layers.proofs.BitLemmas.{bits_parts}
+use Rattle.of_layers.{specs.Bits.bits, specs.Bits.bits_of, specs.Layers.Cell, specs.Layers.encoded, proofs.BitLemmas.bits_parts}
 use Rattle.of_headers.specs.Places.{width}
-use Rattle.of_rewrite.specs.Checksum.{number_of_bits}
-use Rattle.of_rewrite.specs.Frames.{octets_of, bytes_in}
 use Rattle.of_rewrite.proofs.Framing.{AreBits, number_below, bits_take, bits_drop, encoded_bits}
-use Rattle.of_rewrite.proofs.Standing.{length_encoded}
+use Rattle.of_rewrite.{specs.Checksum.number_of_bits, specs.Frames.octets_of, specs.Frames.bytes_in, proofs.Standing.length_encoded}
 
 one_bit : (b : ℕ) → b < 2 → bits 1 b ≡ b ∷ []
 unfolding bits

@@ -1,36 +1,20 @@
 -- The checksums of a frame with given fields are right: with the words that they cover they sum up to all ones (RFC 1071, 1).
 use Rattle.std.proofs.Common.{◌≡◌, ℕ, zero, suc, ◌+◌, ◌-◌, ◌*◌, ◌/◌, ◌%◌, ◌^◌, ◌<◌, ◌≤◌, Bool, true, false, List, [], ◌∷◌, ◌++◌, length, take, drop, sum, refl, sym, ap, ◌∙◌, arith, append_assoc, append-nil, subst, inl, inr}
-use Rattle.std.specs.Prelude.{◌||◌, is_some, IsTrue}
-use Rattle.std.proofs.lemmas.Bool.{cases_eq, eq-eqb, ne_eqb}
-use Rattle.std.proofs.lemmas.List.{take_at, drop_at, length-append}
-use Rattle.std.proofs.lemmas.List.Sums.{sum_by-cons}
-use Rattle.std.proofs.lemmas.Nat.{mod_below}
-use Rattle.std.proofs.Math.Nat.{mod-eq_of_lt}
-use Rattle.of_layers.specs.declared.field.Field.{Field}
+use Rattle.std.{specs.Prelude.◌||◌, specs.Prelude.is_some, specs.Prelude.IsTrue, proofs.lemmas.Bool.cases_eq, proofs.lemmas.Bool.eq-eqb, proofs.lemmas.Bool.ne_eqb}
+use Rattle.std.proofs.{lemmas.List.take_at, lemmas.List.drop_at, lemmas.List.length-append, lemmas.List.Sums.sum_by-cons, lemmas.Nat.mod_below, Math.Nat.mod-eq_of_lt}
 use Rattle.of_layers.specs.declared.field.Field.TheVariants.{IpDscp, IpEcn, Ipv4Src, Ipv4Dst, Ipv6Src, Ipv6Dst, TcpSrc, TcpDst, UdpSrc, UdpDst, Icmpv4Type, Icmpv4Code, Icmpv6Type, Icmpv6Code}
-use Rattle.of_layers.specs.declared.transport.Transport.{Transport}
 use Rattle.of_layers.specs.declared.transport.Transport.TheVariants.{Nothing, Tcp, Udp, Icmpv4, Icmpv6}
-use Rattle.of_layers.specs.Bits.{bits}
-use Rattle.of_layers.specs.Fields.{row_of}
 use Rattle.of_layers.specs.Layers.{Cell, Layers, cells_in, byte_cells, items_of, ipv4, ipv6, plain, encoded}
-use Rattle.of_layers.specs.Reading.{layers_of}
+use Rattle.of_layers.specs.{declared.field.Field.Field, declared.transport.Transport.Transport, Bits.bits, Fields.row_of, Reading.layers_of}
 use Rattle.of_layers.proofs.BitLemmas.{bits_parts, bits_cut, length-bits}
 use Rattle.of_rewrite.specs.Checksum.{fold, never_zero, number_of_bits, words_of, sums_to_ones, AreWords}
-use Rattle.of_rewrite.specs.Right.{header_is_right, carried_is_right, left_out}
-use Rattle.of_rewrite.specs.Rewriting.{words}
-use Rattle.of_rewrite.proofs.Folding.{fold_is}
-use Rattle.of_frames.specs.declared.shape.Shape.{Shape}
-use Rattle.of_frames.specs.declared.shape.Shape.TheVariants as shapes
-use Rattle.of_frames.specs.declared.shape.Tagging.{Tagging}
-use Rattle.of_frames.specs.Rules.{is_ipv4_shape, protocol_of}
-use Rattle.of_rewrite.proofs.Renewing.{number-bits}
-use Rattle.of_frames.specs.Given.{given_number}
+use Rattle.of_rewrite.{specs.Right.header_is_right, specs.Right.carried_is_right, specs.Right.left_out, specs.Rewriting.words, proofs.Folding.fold_is, proofs.Renewing.number-bits}
 use Rattle.of_frames.specs.Checksums.{checksum_of, word_sum, protocol_with, size_with, service_given, header_sum, ipv4_sum, ipv6_sum, carried_checksum}
 use Rattle.of_frames.specs.Packets.{ipv4_given, ipv6_given, numbers_given, body_over_ipv4, body_given, frame_given}
-use Rattle.of_frames.specs.Beside.{numbers_beside}
+use Rattle.of_frames.specs.{declared.shape.Shape.Shape, declared.shape.Tagging.Tagging, Rules.is_ipv4_shape, Rules.protocol_of, Given.given_number, Beside.numbers_beside}
 use Rattle.of_frames.proofs.AddingLemmas.{bits_low, service_bits, version_bits}
-use Rattle.of_frames.proofs.FitLemmas.{given_small, protocol_small, size_small, checksum_small}
-use Rattle.of_frames.proofs.FrameLemmas.{given_layers}
+use Rattle.of_frames.proofs.{FitLemmas.given_small, FitLemmas.protocol_small, FitLemmas.size_small, FitLemmas.checksum_small, FrameLemmas.given_layers}
+use Rattle.of_frames.specs.declared.shape.Shape.TheVariants as shapes
 
 -- ---- words of bits
 

@@ -1,28 +1,19 @@
 -- Each frame has the fields of its shape and of its tags.
 use Rattle.std.proofs.Common.{◌≡◌, ℕ, ◌+◌, ◌<◌, ◌≤◌, zero, suc, Bool, true, false, cond, ◌&&◌, eqb, List, [], ◌∷◌, ◌++◌, length, get_or, Option, Some, None, refl, sym, ap, subst, ◌∙◌, arith}
 use Rattle.std.specs.Prelude.{◌||◌, ◌/◌, ◌%◌, not, is_some, bit_and, nat_le}
-use Rattle.std.specs.Int.{bit_at}
-use Rattle.std.specs.Int.Bits.{and_comm, and_zero_l}
-use Rattle.std.proofs.lemmas.Nat.Bits.{and_pow}
-use Rattle.std.specs.Option.{option_or}
-use Rattle.std.proofs.lemmas.Bool.{eqb-true}
-use Rattle.of_layers.specs.declared.field.Field.{Field}
+use Rattle.std.{specs.Int.bit_at, specs.Int.Bits.and_comm, specs.Int.Bits.and_zero_l, specs.Option.option_or, proofs.lemmas.Nat.Bits.and_pow, proofs.lemmas.Bool.eqb-true}
 use Rattle.of_layers.specs.declared.field.Field.TheVariants.{InPort, Metadata, EthType, VlanVid, VlanPcp, IpProto}
-use Rattle.of_layers.specs.declared.transport.Transport.{Transport}
 use Rattle.of_layers.specs.declared.transport.Transport.TheVariants.{Nothing, Tcp, Udp, Icmpv4, Icmpv6}
-use Rattle.of_layers.specs.Fields.{row_of, number_of, ones_of, prerequisite_of}
 use Rattle.of_layers.specs.Layers.{Item, plain, named, Cell, Extension, Options, Fragment, Body, Plain, Arp, Ipv4, Ipv6, Carried, Layers, cells_in, byte_cells, inner_cells, tag_cells, extension_cells, carried_cells, body_cells, cells, next_before, addresses, outer_tag, inner_tag, ether_type, arp, ipv4, ipv6, options, fragment, items_of, size_of}
-use Rattle.of_layers.specs.Looking.{name_is, look_up, look}
-use Rattle.of_layers.specs.Reading.{layers_of, over_ipv4, over_ipv6, kind_behind}
 use Rattle.of_layers.specs.WellFormed.{AreBytes, FitsItems, AreTags, AreExtensions, IsBody, IsLayers, IsCarried, carried_size}
+use Rattle.of_layers.specs.{declared.field.Field.Field, declared.transport.Transport.Transport, Fields.row_of, Fields.number_of, Fields.ones_of, Fields.prerequisite_of}
+use Rattle.of_layers.specs.{Looking.name_is, Looking.look_up, Looking.look, Reading.layers_of, Reading.over_ipv4, Reading.over_ipv6, Reading.kind_behind}
 use Rattle.of_layers.proofs.FrameLemmas.{are_layers}
-use Rattle.of_headers.specs.FieldMap.{field_map, vid}
-use Rattle.of_headers.proofs.LookLemmas.{look-append, look_bytes, or_assoc}
+use Rattle.of_headers.{specs.FieldMap.field_map, specs.FieldMap.vid, proofs.LookLemmas.look-append, proofs.LookLemmas.look_bytes, proofs.LookLemmas.or_assoc}
 use Rattle.of_frames.specs.declared.shape.Shape.TheVariants as shapes
-use Rattle.of_frames.specs.declared.shape.Tagging.{Tagging}
-use Rattle.of_frames.specs.declared.shape.Tagging.TheVariants.{Untagged, Tagged}
-use Rattle.of_frames.specs.declared.shape.Rule.TheVariants.{Absent, Under}
 use Rattle.of_frames.specs.Rules.{Obeys, has_header, of_shape, of_tagging, shape_of, tagging_of, shape_type, valued, HasShape, IsTagging}
+use Rattle.of_frames.specs.{declared.shape.Tagging.Tagging, declared.shape.Tagging.TheVariants.Untagged, declared.shape.Tagging.TheVariants.Tagged}
+use Rattle.of_frames.specs.declared.shape.Rule.TheVariants.{Absent, Under}
 use Rattle.of_frames.specs.Rules as rules_of
 
 -- ---- whether a name is found

@@ -1,14 +1,13 @@
 -- Sums of words, part by part.
 use Rattle.std.proofs.Common.{◌≡◌, ℕ, ◌+◌, ◌*◌, ◌^◌, ◌<◌, sym, ap, ◌∙◌}
 use Rattle.std.proofs.Math.Nat.{mod-eq_of_lt}
-use Rattle.of_layers.specs.Fields.{row_of}
 use Rattle.of_layers.specs.declared.field.Field.TheVariants.{Ipv4Src, Ipv4Dst, Ipv6Src, Ipv6Dst, TcpSrc, TcpDst, UdpSrc, UdpDst, Icmpv4Type, Icmpv4Code, Icmpv6Type, Icmpv6Code}
-use Rattle.of_layers.specs.declared.transport.Transport.{Transport}
+use Rattle.of_layers.specs.{Fields.row_of, declared.transport.Transport.Transport}
 use Rattle.of_layers.specs.declared.transport.Transport.TheVariants.{Tcp, Udp, Icmpv4, Icmpv6}
 use Rattle.of_headers.specs.declared.numbers.Numbers.{Numbers}
 use Rattle.of_rewrite.specs.Checksum.{never_zero}
-use Rattle.of_frames.specs.Given.{given_number, number}
 use Rattle.of_frames.specs.Checksums.{checksum_of, word_sum, protocol_with, size_with, service_given, header_sum, ipv4_sum, ipv6_sum, carried_checksum}
+use Rattle.of_frames.specs.Given.{given_number, number}
 
 -- the IPv4 header
 pub header_sum_is : (k : Transport) (n : Numbers) (s z p a b : ℕ) → n.ipv4_src < 2 ^ 32 → n.ipv4_dst < 2 ^ 32 →

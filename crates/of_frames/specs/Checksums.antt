@@ -1,9 +1,8 @@
 -- CHECKSUMS (RFC 1071, 1): the complement of the sum of the words of 16 bits that they cover, in one's complement.
 use Rattle.std.specs.Prelude.{ℕ, zero, suc, ◌+◌, ◌-◌, ◌*◌, ◌/◌, ◌%◌, ◌^◌}
 use Rattle.of_layers.specs.declared.field.Field.TheVariants.{IpDscp, IpEcn, IpProto, Ipv4Src, Ipv4Dst, Ipv6Src, Ipv6Dst, TcpSrc, TcpDst, UdpSrc, UdpDst, Icmpv4Type, Icmpv4Code, Icmpv6Type, Icmpv6Code}
-use Rattle.of_layers.specs.declared.transport.Transport.{Transport}
 use Rattle.of_layers.specs.declared.transport.Transport.TheVariants.{Nothing, Tcp, Udp, Icmpv4, Icmpv6}
-use Rattle.of_layers.specs.declared.field.Field.{Field}
+use Rattle.of_layers.specs.{declared.transport.Transport.Transport, declared.field.Field.Field}
 use Rattle.of_rewrite.specs.Checksum.{fold, never_zero}
 use Rattle.of_frames.specs.Given.{given_number}
 

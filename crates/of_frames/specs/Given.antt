@@ -1,14 +1,10 @@
 -- FRAMES WITH GIVEN FIELDS (OpenFlow 1.3.5, 7.2.3.7). A frame has the headers of its shape, and a tag or none. Each field that such frames have gets the number that is given for it, or as many of its low bits as the field has.
 use Rattle.std.specs.Prelude.{ℕ, ◌+◌, ◌%◌, ◌^◌, if◌then◌else◌, slice_index, unwrap_or, Option, Some, None}
-use Rattle.of_layers.specs.declared.field.Field.{Field}
 use Rattle.of_layers.specs.declared.field.Field.TheVariants.{InPort, Metadata, EthType, VlanVid, VlanPcp, IpProto}
+use Rattle.of_layers.specs.{declared.field.Field.Field, Fields.number_of, Fields.bit_count, Fields.prerequisite_of}
 use Rattle.of_layers.specs.declared.field.Prerequisite.TheVariants as needs
-use Rattle.of_layers.specs.Fields.{number_of, bit_count, prerequisite_of}
-use Rattle.of_headers.specs.declared.numbers.Numbers.{Numbers}
-use Rattle.of_headers.specs.Numbers.{numbers_in}
-use Rattle.of_frames.specs.declared.shape.Shape.{Shape}
-use Rattle.of_frames.specs.declared.shape.Tagging.{Tagging}
-use Rattle.of_frames.specs.declared.shape.Tagging.TheVariants.{Untagged, Tagged}
+use Rattle.of_headers.specs.{declared.numbers.Numbers.Numbers, Numbers.numbers_in}
+use Rattle.of_frames.specs.{declared.shape.Shape.Shape, declared.shape.Tagging.Tagging, declared.shape.Tagging.TheVariants.Untagged, declared.shape.Tagging.TheVariants.Tagged}
 use Rattle.of_frames.specs.Rules.{has_header, shape_type, protocol_of}
 
 -- the numbers of a key, each by its field

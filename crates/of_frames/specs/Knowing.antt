@@ -1,13 +1,8 @@
 -- WHAT IS KNOWN OF THE FIELDS OF PACKETS: of each field that has a mask, whether it is there, and its bits under the mask.
 use Rattle.std.specs.Prelude.{◌≡◌, ◌≤◌, ◌⊎◌, ℕ, Option, None, IfSome}
-use Rattle.of_layers.specs.declared.field.Field.{Field}
-use Rattle.of_layers.specs.declared.field.Field.TheVariants.{VlanVid, VlanPcp}
-use Rattle.of_layers.specs.Fields.{ones_of}
+use Rattle.of_layers.specs.{declared.field.Field.Field, declared.field.Field.TheVariants.VlanVid, declared.field.Field.TheVariants.VlanPcp, Fields.ones_of}
 use Rattle.of_headers.specs.FieldMap.{seen}
-use Rattle.of_frames.specs.declared.shape.Shape.{Shape}
-use Rattle.of_frames.specs.declared.shape.Tagging.{Tagging}
-use Rattle.of_frames.specs.declared.shape.Tagging.TheVariants.{Untagged}
-use Rattle.of_frames.specs.Rules.{HasShape, IsTagging}
+use Rattle.of_frames.specs.{declared.shape.Shape.Shape, declared.shape.Tagging.Tagging, declared.shape.Tagging.TheVariants.Untagged, Rules.HasShape, Rules.IsTagging}
 
 -- a packet of which this is known
 abbrev pub IsAmong : (Field → Option ℕ) → (Field → Option ℕ) → (Field → Option ℕ) → Type 0

@@ -1,17 +1,14 @@
 -- THE FRAME: each of its headers is as short as it can be, and nothing comes after them. TTL and hop limit are 64.
 use Rattle.std.specs.Prelude.{ℕ, ◌+◌, List, [], ◌∷◌}
 use Rattle.of_layers.specs.declared.field.Field.TheVariants.{EthDst, EthSrc, VlanPcp, IpDscp, IpEcn, Ipv4Src, Ipv4Dst, TcpSrc, TcpDst, UdpSrc, UdpDst, Icmpv4Type, Icmpv4Code, ArpOp, ArpSpa, ArpTpa, ArpSha, ArpTha, Ipv6Src, Ipv6Dst, Ipv6Flabel, Icmpv6Type, Icmpv6Code}
-use Rattle.of_layers.specs.declared.transport.Transport.{Transport}
 use Rattle.of_layers.specs.declared.transport.Transport.TheVariants.{Nothing, Tcp, Udp, Icmpv4, Icmpv6}
 use Rattle.of_layers.specs.Layers.{Carried, Body, Plain, Arp, Ipv4, Ipv6, Layers, cells}
-use Rattle.of_layers.specs.declared.field.Field.{Field}
+use Rattle.of_layers.specs.{declared.transport.Transport.Transport, declared.field.Field.Field}
 use Rattle.of_rewrite.specs.Frames.{bytes_in}
-use Rattle.of_frames.specs.declared.shape.Shape.{Shape}
-use Rattle.of_frames.specs.declared.shape.Shape.TheVariants as shapes
-use Rattle.of_frames.specs.declared.shape.Tagging.{Tagging}
-use Rattle.of_frames.specs.declared.shape.Tagging.TheVariants.{Untagged, Tagged}
-use Rattle.of_frames.specs.Given.{given_number, type_given, vid_given}
 use Rattle.of_frames.specs.Checksums.{checksum_of, protocol_with, size_with, header_sum, ipv4_sum, ipv6_sum, carried_checksum}
+use Rattle.of_frames.specs.{declared.shape.Shape.Shape, declared.shape.Tagging.Tagging, declared.shape.Tagging.TheVariants.Untagged, declared.shape.Tagging.TheVariants.Tagged}
+use Rattle.of_frames.specs.Given.{given_number, type_given, vid_given}
+use Rattle.of_frames.specs.declared.shape.Shape.TheVariants as shapes
 
 abbrev pub ends_given : (Field → ℕ) → List ℕ
 ends_given v = given_number v EthDst ∷ given_number v EthSrc ∷ []

@@ -1,20 +1,15 @@
 -- WHICH FIELDS FRAMES HAVE (OpenFlow 1.3.5, 7.2.3.7 and 7.2.3.8). A shape says which headers are behind the type; a frame has a field exactly if it has the header that the field's prerequisite names.
 use Rattle.std.specs.Prelude.{◌≡◌, ℕ, ◌||◌, Bool, true, false, if◌then◌else◌, List, [], ◌∷◌, Option, Some, None}
+use Rattle.of_layers.specs.Layers.{Body, Plain, Arp, Ipv4, Ipv6}
 use Rattle.of_layers.specs.declared.field.Field.{Field}
 use Rattle.of_layers.specs.declared.field.Field.TheVariants.{EthType, VlanVid, VlanPcp, IpProto}
-use Rattle.of_layers.specs.declared.field.Prerequisite.{Prerequisite}
-use Rattle.of_layers.specs.declared.field.Prerequisite.TheVariants as needs
-use Rattle.of_layers.specs.Fields.{ones_of, prerequisite_of}
-use Rattle.of_layers.specs.declared.transport.Transport.{Transport}
+use Rattle.of_layers.specs.{declared.field.Prerequisite.Prerequisite, Fields.ones_of, Fields.prerequisite_of, declared.transport.Transport.Transport}
 use Rattle.of_layers.specs.declared.transport.Transport.TheVariants.{Tcp, Udp, Icmpv4, Icmpv6}
-use Rattle.of_layers.specs.Layers.{Body, Plain, Arp, Ipv4, Ipv6}
+use Rattle.of_layers.specs.declared.field.Prerequisite.TheVariants as needs
 use Rattle.of_headers.specs.FieldMap.{seen}
-use Rattle.of_frames.specs.declared.shape.Shape.{Shape}
+use Rattle.of_frames.specs.{declared.shape.Shape.Shape, declared.shape.Tagging.Tagging, declared.shape.Tagging.TheVariants.Untagged, declared.shape.Tagging.TheVariants.Tagged}
+use Rattle.of_frames.specs.{declared.shape.Rule.Rule, declared.shape.Rule.TheVariants.Free, declared.shape.Rule.TheVariants.Absent, declared.shape.Rule.TheVariants.Under}
 use Rattle.of_frames.specs.declared.shape.Shape.TheVariants as shapes
-use Rattle.of_frames.specs.declared.shape.Tagging.{Tagging}
-use Rattle.of_frames.specs.declared.shape.Tagging.TheVariants.{Untagged, Tagged}
-use Rattle.of_frames.specs.declared.shape.Rule.{Rule}
-use Rattle.of_frames.specs.declared.shape.Rule.TheVariants.{Free, Absent, Under}
 
 -- ---- headers
 

@@ -1,7 +1,6 @@
 //! Numbers appended to bytes, the highest bit first.
 ghost use Rattle.std.specs.Prelude.{◌<◌, ◌^◌, OnOk};
-ghost use Rattle.of_layers.specs.Bits.{bits};
-ghost use Rattle.of_layers.specs.WellFormed.{AreBytes};
+ghost use Rattle.of_layers.specs.{Bits.bits, WellFormed.AreBytes};
 ghost use Rattle.of_frames.specs.Adding.{Adds};
 
 use std::alloc::AllocError;

@@ -3,8 +3,7 @@ ghost use Rattle.std.specs.Prelude.{◌≡◌, ℕ, IfOk, length};
 ghost use Rattle.of_layers.specs.Reading.{layers_of};
 ghost use Rattle.of_headers.specs.FieldMap.{field_map, value};
 ghost use Rattle.of_rewrite.specs.Frames.{IsFrame};
-ghost use Rattle.of_frames.specs.Given.{fields_given, number, or_zero, type_given};
-ghost use Rattle.of_frames.specs.Packets.{frame_given, frame_size, layers_given};
+ghost use Rattle.of_frames.specs.{Given.fields_given, Given.number, Given.or_zero, Given.type_given, Packets.frame_given, Packets.frame_size, Packets.layers_given};
 
 use crate::bits::{known_bytes, push_word};
 use crate::packets::{push_body, push_ends, push_tags};

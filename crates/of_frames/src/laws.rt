@@ -1,18 +1,10 @@
 //! What the frames with given fields are, and that packets of which something is known have frames.
 ghost use Rattle.std.specs.Prelude.{◌≡◌, ℕ, true, Option, Some, is_some, IsTrue, length};
-ghost use Rattle.of_layers.specs.declared.field.Field.{Field};
-ghost use Rattle.of_layers.specs.declared.field.Field.TheVariants.{InPort, Metadata};
-ghost use Rattle.of_layers.specs.Reading.{layers_of};
+ghost use Rattle.of_layers.specs.{declared.field.Field.Field, declared.field.Field.TheVariants.InPort, declared.field.Field.TheVariants.Metadata, Reading.layers_of};
 ghost use Rattle.of_headers.specs.FieldMap.{field_map};
-ghost use Rattle.of_rewrite.specs.Frames.{IsFrame};
-ghost use Rattle.of_rewrite.specs.Right.{carried_is_right, header_is_right};
-ghost use Rattle.of_frames.specs.Rules.{is_ipv4_shape, protocol_of};
-ghost use Rattle.of_frames.specs.declared.shape.Shape.{Shape};
-ghost use Rattle.of_frames.specs.declared.shape.Tagging.{Tagging};
-ghost use Rattle.of_frames.specs.Beside.{numbers_beside};
-ghost use Rattle.of_frames.specs.Given.{fields_given, or_zero};
-ghost use Rattle.of_frames.specs.Knowing.{IsAmong, IsKnown};
-ghost use Rattle.of_frames.specs.Packets.{frame_given, frame_size, layers_given};
+ghost use Rattle.of_rewrite.specs.{Frames.IsFrame, Right.carried_is_right, Right.header_is_right};
+ghost use Rattle.of_frames.specs.{Rules.is_ipv4_shape, Rules.protocol_of, declared.shape.Shape.Shape, declared.shape.Tagging.Tagging, Beside.numbers_beside, Given.fields_given, Given.or_zero};
+ghost use Rattle.of_frames.specs.{Knowing.IsAmong, Knowing.IsKnown, Packets.frame_given, Packets.frame_size, Packets.layers_given};
 
 /// The frame with given fields is a frame, and when it is read it has these fields: each field of its shape and of its tag with the number that was
 /// given, and no other field (OpenFlow 1.3.5, 7.2.3.7).

@@ -1,13 +1,9 @@
 //! The headers of a frame with given fields, appended to bytes.
 ghost use Rattle.std.specs.Prelude.{◌++◌, OnOk};
-ghost use Rattle.of_layers.specs.Bits.{bits};
 ghost use Rattle.of_layers.specs.Layers.{addresses, arp, body_cells, carried_cells, cells_in, encoded, ipv4, ipv6, named, tag_cells};
-ghost use Rattle.of_layers.specs.declared.field.Field.TheVariants.{IpProto};
-ghost use Rattle.of_layers.specs.declared.transport.Transport.TheVariants.{Tcp, Udp};
-ghost use Rattle.of_frames.specs.declared.shape.Tagging.TheVariants.{Tagged};
-ghost use Rattle.of_frames.specs.Adding.{Adds};
-ghost use Rattle.of_frames.specs.Given.{number};
+ghost use Rattle.of_layers.specs.{Bits.bits, declared.field.Field.TheVariants.IpProto, declared.transport.Transport.TheVariants.Tcp, declared.transport.Transport.TheVariants.Udp};
 ghost use Rattle.of_frames.specs.Packets.{arp_given, body_given, carried_given, ends_given, ipv4_given, ipv6_given, body_over_ipv4, body_over_ipv6, tags_given};
+ghost use Rattle.of_frames.specs.{declared.shape.Tagging.TheVariants.Tagged, Adding.Adds, Given.number};
 
 use crate::bits::{push_address, push_byte, push_double, push_sixteen, push_word};
 use crate::sums::{

@@ -1,7 +1,6 @@
 //! What the fields of every frame obey.
 ghost use Rattle.std.specs.Prelude.{◌≤◌, List, ℕ, length};
-ghost use Rattle.of_layers.specs.Reading.{layers_of};
-ghost use Rattle.of_layers.specs.WellFormed.{AreBytes};
+ghost use Rattle.of_layers.specs.{Reading.layers_of, WellFormed.AreBytes};
 ghost use Rattle.of_headers.specs.FieldMap.{field_map};
 ghost use Rattle.of_frames.specs.Rules.{HasShape, IsTagging, shape_of, tagging_of};
 

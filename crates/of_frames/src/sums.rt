@@ -1,8 +1,8 @@
 //! Checksums (RFC 1071, 1) of the headers of a frame with given fields.
 ghost use Rattle.std.specs.Prelude.{◌≡◌, ◌≤◌, ◌<◌, ◌/◌, ◌%◌, ◌^◌};
 ghost use Rattle.of_rewrite.specs.Checksum.{never_zero as never_zero_of};
-ghost use Rattle.of_frames.specs.Given.{number};
 ghost use Rattle.of_frames.specs.Checksums.{carried_checksum as carried_checksum_of, checksum_of, header_sum, ipv4_sum as ipv4_sum_of, ipv6_sum as ipv6_sum_of, protocol_with, service_given, size_with, word_sum};
+ghost use Rattle.of_frames.specs.Given.{number};
 
 use of_headers::{Numbers, Transport};
 

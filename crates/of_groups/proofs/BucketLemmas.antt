@@ -1,10 +1,8 @@
 -- Buckets whose counters change.
 use Rattle.std.proofs.Common.{◌≡◌, ℕ, zero, suc, ◌<◌, ◌≤◌, Bool, true, List, [], ◌∷◌, ◌++◌, length, get_or, set, take, drop, refl, ap, arith}
-use Rattle.std.proofs.lemmas.List.{take_all, drop_all, append-nil}
-use Rattle.std.specs.Prelude.{◌&&◌, map}
-use Rattle.std.specs.List.{list_all}
-use Rattle.of_groups.specs.declared.bucket.Bucket.{Bucket}
+use Rattle.std.{specs.Prelude.◌&&◌, specs.Prelude.map, specs.List.list_all, proofs.lemmas.List.take_all, proofs.lemmas.List.drop_all, proofs.lemmas.List.append-nil}
 use Rattle.of_groups.specs.Buckets.{is_fit, are_fit, fresh, used_bucket, used_at}
+use Rattle.of_groups.specs.declared.bucket.Bucket.{Bucket}
 
 fresh_length : (buckets : List Bucket) → length (map fresh buckets) ≡ length buckets
 fresh_length [] = refl

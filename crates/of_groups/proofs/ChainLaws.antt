@@ -1,11 +1,10 @@
 -- The longest chain that begins at a group.
 use Rattle.std.proofs.Common.{◌≡◌, ℕ, zero, suc, ◌≤◌, ◌<◌, min, Bool, true, false, cond, List, [], ◌∷◌, length, Option, Some, None, refl, ap, arith}
 use Rattle.std.specs.Option.{option_map_or}
-use Rattle.of_groups.specs.declared.group.Group.{Group}
-use Rattle.of_groups.specs.Groups.{find_group, is_there, any_named, names}
 use Rattle.of_groups.specs.Chains.{names_next, is_chain, AreShort, leads, chain, is_long}
-use Rattle.of_groups.proofs.NameLemmas.{named_number, any_passing}
 use Rattle.of_groups.proofs.ChainLemmas.{there_found, on_found, chain_leads, leads_three, long_leads, leads_there, any_there}
+use Rattle.of_groups.specs.{declared.group.Group.Group, Groups.find_group, Groups.is_there, Groups.any_named, Groups.names}
+use Rattle.of_groups.proofs.NameLemmas.{named_number, any_passing}
 
 -- a chain with this many groups after its first
 abbrev pub Behind : List Group → ℕ → ℕ → Type 0

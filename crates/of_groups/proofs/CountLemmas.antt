@@ -1,23 +1,14 @@
 -- Groups whose counters change.
 use Rattle.std.proofs.Common.{◌≡◌, ℕ, zero, suc, ◌<◌, ◌≤◌, Bool, true, false, not, cond, eqb, ltb, List, [], ◌∷◌, length, get_or, set, Option, Some, None, refl, sym, ap, ◌∙◌, arith}
-use Rattle.std.specs.Prelude.{◌||◌, map, position}
-use Rattle.std.specs.List.{list_any, list_all, position_or_len}
-use Rattle.std.specs.Option.{option_map, option_map_or, is_some}
-use Rattle.std.proofs.lemmas.Bool.Decides.{nat_tests, eqb_tells}
-use Rattle.std.proofs.Math.Path.{fun_ext}
+use Rattle.std.specs.{Prelude.◌||◌, Prelude.map, Prelude.position, List.list_any, List.list_all, List.position_or_len, Option.option_map, Option.option_map_or, Option.is_some}
+use Rattle.std.proofs.{lemmas.Bool.Decides.nat_tests, lemmas.Bool.Decides.eqb_tells, Math.Path.fun_ext}
 use Rattle.of_actions.specs.Rising.{is_ascending}
-use Rattle.of_groups.specs.declared.bucket.Bucket.{Bucket}
-use Rattle.of_groups.specs.declared.group.Group.{Group}
-use Rattle.of_groups.specs.declared.group.GroupKind.{GroupKind}
-use Rattle.of_groups.specs.declared.group.GroupKind.TheVariants.{All, Indirect, FastFailover}
 use Rattle.of_groups.specs.Buckets.{used_bucket, used_at, any_sends, watches, sends, is_badly_watched}
 use Rattle.of_groups.specs.Groups.{group_number, find_group, is_there, any_watches, any_named, names, at_group}
-use Rattle.of_groups.specs.Chains.{names_next, is_chain}
-use Rattle.of_groups.specs.Faults.{is_absent, is_bad_watch, is_not_one}
-use Rattle.of_groups.specs.Sound.{is_fit_group, AreSound}
-use Rattle.of_groups.proofs.BucketLemmas.{used_fit, used_length}
-use Rattle.of_groups.proofs.Finding.{place_later, any_position}
-use Rattle.of_groups.proofs.PutLemmas.{none_as_low}
+use Rattle.of_groups.specs.{declared.bucket.Bucket.Bucket, declared.group.Group.Group, declared.group.GroupKind.GroupKind}
+use Rattle.of_groups.specs.declared.group.GroupKind.TheVariants.{All, Indirect, FastFailover}
+use Rattle.of_groups.specs.{Chains.names_next, Chains.is_chain, Faults.is_absent, Faults.is_bad_watch, Faults.is_not_one, Sound.is_fit_group, Sound.AreSound}
+use Rattle.of_groups.proofs.{BucketLemmas.used_fit, BucketLemmas.used_length, Finding.place_later, Finding.any_position, PutLemmas.none_as_low}
 
 -- ---- the group at a place is the group of a number
 

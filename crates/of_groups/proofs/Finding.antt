@@ -1,9 +1,6 @@
 -- Groups by number: by their places.
 use Rattle.std.proofs.Common.{◌≡◌, ℕ, suc, Bool, true, false, cond, ltb, List, [], ◌∷◌, length, get_or, Option, Some, None, refl, sym, ap, ◌∙◌, arith}
-use Rattle.std.specs.Prelude.{◌||◌, find, position}
-use Rattle.std.specs.List.{list_any, position_or_len}
-use Rattle.std.specs.Option.{is_some}
-use Rattle.std.proofs.lemmas.Bool.Decides.{nat_tests}
+use Rattle.std.{specs.Prelude.◌||◌, specs.Prelude.find, specs.Prelude.position, specs.List.list_any, specs.List.position_or_len, specs.Option.is_some, proofs.lemmas.Bool.Decides.nat_tests}
 
 shifted : (n m : ℕ) (a b : Option ℕ) → cond (ltb (suc n) (suc m)) a b ≡ cond (ltb n m) a b
 shifted n m a b = let same : ltb (suc n) (suc m) ≡ ltb n m = grind (arith, nat_tests) in rw same refl

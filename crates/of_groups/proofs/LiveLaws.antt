@@ -1,18 +1,11 @@
 -- Liveness by kind: so many groups of a chain are enough.
 use Rattle.std.proofs.Common.{◌≡◌, ℕ, zero, suc, Bool, true, false, not, eqb, List, [], ◌∷◌, Option, Some, None, refl, sym, ap, ◌∙◌, arith}
-use Rattle.std.specs.Prelude.{◌&&◌, ◌||◌}
-use Rattle.std.specs.List.{list_any}
-use Rattle.std.specs.Option.{option_map_or}
+use Rattle.std.specs.{Prelude.◌&&◌, Prelude.◌||◌, List.list_any, Option.option_map_or}
 use Rattle.of_wire.specs.declared.limits.TheConstants.{OFPG_ANY, OFPP_ANY}
-use Rattle.of_groups.specs.declared.bucket.Bucket.{Bucket}
-use Rattle.of_groups.specs.declared.group.Group.{Group}
-use Rattle.of_groups.specs.declared.group.GroupKind.{GroupKind}
+use Rattle.of_groups.specs.{declared.bucket.Bucket.Bucket, declared.group.Group.Group, declared.group.GroupKind.GroupKind}
 use Rattle.of_groups.specs.declared.group.GroupKind.TheVariants.{All, Indirect, FastFailover}
-use Rattle.of_groups.specs.Buckets.{watches, any_sends}
-use Rattle.of_groups.specs.Groups.{find_group, any_watches, any_named}
-use Rattle.of_groups.specs.Chains.{AreShort, leads}
-use Rattle.of_groups.specs.Liveness.{is_live_bucket, is_live_kind, is_live_within, is_live_group}
-use Rattle.of_groups.proofs.ChainLemmas.{there_found}
+use Rattle.of_groups.specs.{Buckets.watches, Buckets.any_sends, Groups.find_group, Groups.any_watches, Groups.any_named, Chains.AreShort, Chains.leads}
+use Rattle.of_groups.{specs.Liveness.is_live_bucket, specs.Liveness.is_live_kind, specs.Liveness.is_live_within, specs.Liveness.is_live_group, proofs.ChainLemmas.there_found}
 use Rattle.of_groups.proofs.ChainLaws.{led_chain}
 
 both_false : (a b : Bool) → (a || b) ≡ false → (a ≡ false) × (b ≡ false)

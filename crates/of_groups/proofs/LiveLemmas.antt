@@ -1,9 +1,7 @@
 -- What is live, group by group of a chain, and the places of buckets.
 use Rattle.std.proofs.Common.{◌≡◌, ℕ, zero, suc, ◌+◌, ◌-◌, ◌<◌, Bool, false, List, [], ◌∷◌, ◌++◌, length, Some, None, refl, ap, ◌∙◌, arith}
 use Rattle.std.specs.List.{range_with_len}
-use Rattle.of_groups.specs.declared.group.Group.{Group}
-use Rattle.of_groups.specs.Groups.{find_group}
-use Rattle.of_groups.specs.Liveness.{is_live_kind, is_live_within}
+use Rattle.of_groups.specs.{declared.group.Group.Group, Groups.find_group, Liveness.is_live_kind, Liveness.is_live_within}
 
 pub within_none_left : (groups : List Group) (port : ℕ → Bool) (k n : ℕ) → k ≡ 0 → is_live_within groups port k n ≡ false
 unfolding is_live_within

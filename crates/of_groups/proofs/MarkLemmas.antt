@@ -1,15 +1,8 @@
 -- Marks of the groups after which so many more come.
 use Rattle.std.proofs.Common.{◌≡◌, ℕ, zero, suc, Bool, true, false, cond, eqb, List, [], ◌∷◌, Option, Some, None, refl, sym, ap, ◌∙◌, arith}
-use Rattle.std.specs.Prelude.{map}
-use Rattle.std.specs.Option.{option_map_or}
-use Rattle.std.proofs.lemmas.Bool.{eqb-true}
-use Rattle.std.proofs.Math.Path.{fun_ext}
-use Rattle.of_groups.specs.declared.group.Group.{Group}
-use Rattle.of_groups.specs.Groups.{find_group, is_there, any_named}
-use Rattle.of_groups.specs.Chains.{chain, leads}
-use Rattle.of_groups.specs.Rounds.{length_from, mark_at, marks_of}
-use Rattle.of_groups.proofs.ChainLemmas.{there_found}
-use Rattle.of_groups.proofs.RoundLemmas.{mark_is}
+use Rattle.std.{specs.Prelude.map, specs.Option.option_map_or, proofs.lemmas.Bool.eqb-true, proofs.Math.Path.fun_ext}
+use Rattle.of_groups.specs.{declared.group.Group.Group, Groups.find_group, Groups.is_there, Groups.any_named, Chains.chain, Chains.leads, Rounds.length_from, Rounds.mark_at, Rounds.marks_of}
+use Rattle.of_groups.proofs.{ChainLemmas.there_found, RoundLemmas.mark_is}
 
 found_number : (n : ℕ) (groups : List Group) (g : Group) → find_group n groups ≡ Some g → g.id ≡ n
 found_number n [] g h = absurd cc

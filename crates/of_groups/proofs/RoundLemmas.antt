@@ -1,17 +1,9 @@
 -- Rounds: from what is known of k groups after one to what is known of one more.
 use Rattle.std.proofs.Common.{◌≡◌, ℕ, suc, Bool, true, false, cond, eqb, ltb, List, [], ◌∷◌, length, get_or, Some, None, refl, sym, ap, ◌∙◌, arith}
-use Rattle.std.specs.Prelude.{◌||◌, map, position}
-use Rattle.std.specs.List.{list_any, position_or_len}
-use Rattle.std.specs.Option.{option_map_or}
-use Rattle.std.proofs.lemmas.Bool.Decides.{nat_tests, eqb_tells}
-use Rattle.std.proofs.Math.Path.{fun_ext}
-use Rattle.of_groups.specs.declared.group.Group.{Group}
-use Rattle.of_groups.specs.declared.chains.Round.{Round}
-use Rattle.of_groups.specs.Groups.{find_group, with_group, any_named}
-use Rattle.of_groups.specs.Chains.{leads, is_long}
-use Rattle.of_groups.specs.Rounds.{mark_at, known_of, IsRound}
-use Rattle.of_groups.proofs.ChainLemmas.{there_found}
-use Rattle.of_groups.proofs.Finding.{place_later}
+use Rattle.std.specs.{Prelude.◌||◌, Prelude.map, Prelude.position, List.list_any, List.position_or_len, Option.option_map_or}
+use Rattle.std.proofs.{lemmas.Bool.Decides.nat_tests, lemmas.Bool.Decides.eqb_tells, Math.Path.fun_ext}
+use Rattle.of_groups.specs.{declared.group.Group.Group, declared.chains.Round.Round, Groups.find_group, Groups.with_group, Groups.any_named, Chains.leads, Chains.is_long}
+use Rattle.of_groups.{specs.Rounds.mark_at, specs.Rounds.known_of, specs.Rounds.IsRound, proofs.ChainLemmas.there_found, proofs.Finding.place_later}
 use Rattle.of_groups.proofs.PutLemmas.{find_with, any_with}
 
 shifted_bool : (n m : ℕ) (x : Bool) → cond (ltb (suc n) (suc m)) x false ≡ cond (ltb n m) x false

@@ -1,26 +1,17 @@
 -- The invariants of groups are kept.
 use Rattle.std.proofs.Common.{◌≡◌, ℕ, ◌≤◌, ◌<◌, Bool, true, false, not, cond, eqb, ltb, List, [], ◌∷◌, length, Option, Some, None, refl, sym, ap, ◌∙◌, arith}
 use Rattle.std.specs.Prelude.{◌&&◌, ◌||◌, ◌+◌, nat_le, Result, Ok, Err, OnOk, OnErr}
-use Rattle.std.proofs.lemmas.List.{length-set}
-use Rattle.std.proofs.lemmas.List.Edits.{length-insert}
+use Rattle.std.{specs.List.list_any, specs.List.list_all, specs.Option.option_map_or, proofs.lemmas.List.length-set, proofs.lemmas.List.Edits.length-insert}
+use Rattle.std.proofs.{lemmas.Bool.Decides.nat_tests, lemmas.Bool.Decides.eqb_tells, Math.Path.fun_ext}
 use Rattle.of_actions.specs.Rising.{is_ascending}
-use Rattle.std.specs.List.{list_any, list_all}
-use Rattle.std.specs.Option.{option_map_or}
-use Rattle.std.proofs.lemmas.Bool.Decides.{nat_tests, eqb_tells}
 use Rattle.of_action_set.proofs.Ranked.{below, rising_put, all_put, rising-filter, all-filter, length-filter_le}
 use Rattle.of_wire.specs.Numbered.{without}
-use Rattle.of_groups.specs.declared.group.Group.{Group}
-use Rattle.of_groups.specs.declared.group_fault.GroupFault.{GroupFault}
 use Rattle.of_groups.specs.declared.group_fault.GroupFault.TheVariants.{BadWatch, NotOneBucket, Exists, Full, Unknown, AbsentGroup, AbsentWatch, LongChain}
-use Rattle.of_groups.specs.Buckets.{are_fit, any_sends}
 use Rattle.of_groups.specs.Groups.{group_number, find_group, is_there, any_watches, any_named, names, with_group}
-use Rattle.of_groups.specs.Chains.{names_next, is_chain, is_long}
 use Rattle.of_groups.specs.Faults.{is_absent, is_bad_watch, is_not_one, naming_fault, add_fault, modify_fault}
-use Rattle.of_groups.specs.Rounds.{absent_with}
-use Rattle.std.proofs.Math.Path.{fun_ext}
-use Rattle.of_groups.specs.Sound.{is_fit_group, is_whole, AreSound}
-use Rattle.of_groups.proofs.NameLemmas.{all_more, none_named_less, named_at, named_number}
-use Rattle.of_groups.proofs.ChainLemmas.{not_long, both_true, there_found}
+use Rattle.of_groups.specs.{declared.group.Group.Group, declared.group_fault.GroupFault.GroupFault, Buckets.are_fit, Buckets.any_sends, Chains.names_next, Chains.is_chain, Chains.is_long}
+use Rattle.of_groups.specs.{Rounds.absent_with, Sound.is_fit_group, Sound.is_whole, Sound.AreSound}
+use Rattle.of_groups.proofs.{NameLemmas.all_more, NameLemmas.none_named_less, NameLemmas.named_at, NameLemmas.named_number, ChainLemmas.not_long, ChainLemmas.both_true, ChainLemmas.there_found}
 use Rattle.of_groups.proofs.PutLemmas.{there_with, inserted, replaced}
 
 -- ---- none applied

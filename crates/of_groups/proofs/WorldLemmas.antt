@@ -1,25 +1,14 @@
 -- What holds of the buckets of a group that run.
 use Rattle.std.proofs.Common.{◌≡◌, ◌≢◌, ℕ, zero, suc, ◌+◌, ◌<◌, ◌≤◌, Bool, true, false, cond, eqb, ltb, List, [], ◌∷◌, length, get_or, Option, Some, None, refl, ◌∙◌, arith}
 use Rattle.std.specs.Prelude.{◌&&◌, ◌||◌, nat_le, find, position, slice_get, ⊤}
-use Rattle.std.specs.List.{list_any, list_all, range_with_len, position_or_len}
-use Rattle.std.specs.Option.{option_map, option_to_list}
+use Rattle.std.specs.{List.list_any, List.list_all, List.range_with_len, List.position_or_len, Option.option_map, Option.option_to_list}
 use Rattle.std.proofs.lemmas.Bool.Decides.{nat_tests}
-use Rattle.of_actions.specs.declared.action.Action.{Action}
-use Rattle.of_actions.specs.Supported.{are_supported}
-use Rattle.of_groups.specs.declared.bucket.Bucket.{Bucket}
-use Rattle.of_groups.specs.declared.group.Group.{Group}
-use Rattle.of_groups.specs.declared.group.GroupKind.{GroupKind}
+use Rattle.of_actions.specs.{declared.action.Action.Action, Supported.are_supported}
+use Rattle.of_groups.specs.{declared.bucket.Bucket.Bucket, declared.group.Group.Group, declared.group.GroupKind.GroupKind}
 use Rattle.of_groups.specs.declared.group.GroupKind.TheVariants.{All, Indirect, FastFailover}
-use Rattle.of_groups.specs.Buckets.{is_fit, are_fit, sends, any_sends}
-use Rattle.of_groups.specs.Groups.{find_group, names, bucket_at}
-use Rattle.of_groups.specs.Chains.{chain, names_next}
-use Rattle.of_groups.specs.Liveness.{is_live_bucket, is_live_group, places_of, chosen}
-use Rattle.of_groups.specs.Sound.{is_fit_group, AreSound}
-use Rattle.of_groups.proofs.NameLemmas.{or_first}
-use Rattle.of_groups.proofs.ChainLemmas.{there_found, both_true}
-use Rattle.of_groups.proofs.ChainLaws.{chain_falls, chain_there}
-use Rattle.of_groups.proofs.LiveLemmas.{range_length}
-use Rattle.of_groups.proofs.CountLemmas.{place_is}
+use Rattle.of_groups.specs.{Buckets.is_fit, Buckets.are_fit, Buckets.sends, Buckets.any_sends, Groups.find_group, Groups.names, Groups.bucket_at, Chains.chain, Chains.names_next}
+use Rattle.of_groups.specs.{Liveness.is_live_bucket, Liveness.is_live_group, Liveness.places_of, Liveness.chosen, Sound.is_fit_group, Sound.AreSound}
+use Rattle.of_groups.proofs.{NameLemmas.or_first, ChainLemmas.there_found, ChainLemmas.both_true, ChainLaws.chain_falls, ChainLaws.chain_there, LiveLemmas.range_length, CountLemmas.place_is}
 
 -- ---- elements at places
 

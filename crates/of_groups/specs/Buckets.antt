@@ -2,10 +2,7 @@
 use Rattle.std.specs.Prelude.{ℕ, zero, suc, ◌+◌, ◌%◌, ◌^◌, ◌==◌, nat_le, nat_lt, Bool, false, not, ◌&&◌, ◌||◌, List, [], ◌∷◌, length}
 use Rattle.std.specs.List.{list_any, list_all}
 use Rattle.of_wire.specs.declared.limits.TheConstants.{OFPG_ANY, OFPG_MAX, OFPP_ANY}
-use Rattle.of_actions.specs.declared.action.Action.{Action}
-use Rattle.of_actions.specs.declared.action.Action.TheVariants.{Group}
-use Rattle.of_actions.specs.Supported.{are_supported}
-use Rattle.of_actions.specs.PortNumbers.{is_number}
+use Rattle.of_actions.specs.{declared.action.Action.Action, declared.action.Action.TheVariants.Group, Supported.are_supported, PortNumbers.is_number}
 use Rattle.of_groups.specs.declared.bucket.Bucket.{Bucket}
 
 -- at most 16 of them, each with actions that are valid in a group

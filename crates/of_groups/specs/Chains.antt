@@ -1,9 +1,7 @@
 -- Chains of groups (OpenFlow 1.3.5, 5.6.1 and 6.5).
 use Rattle.std.specs.Prelude.{◌≡◌, ◌≤◌, ℕ, zero, suc, Bool, true, false, ◌&&◌, List, [], ◌∷◌, length, if◌then◌else◌}
-use Rattle.std.specs.List.{list_any}
-use Rattle.std.specs.Option.{option_map_or}
-use Rattle.of_groups.specs.declared.group.Group.{Group}
-use Rattle.of_groups.specs.Groups.{find_group, is_there, any_named, names}
+use Rattle.std.specs.{List.list_any, Option.option_map_or}
+use Rattle.of_groups.specs.{declared.group.Group.Group, Groups.find_group, Groups.is_there, Groups.any_named, Groups.names}
 
 -- the group n exists, and names the group m
 abbrev pub names_next : List Group → ℕ → ℕ → Bool

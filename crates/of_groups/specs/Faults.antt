@@ -1,17 +1,12 @@
 -- Why a change of groups is refused (OpenFlow 1.3.5, 6.5 and 7.4.4), in the written order. What the message alone decides was refused before.
 use Rattle.std.specs.Prelude.{ℕ, ◌==◌, nat_le, Bool, false, not, List, length, Option, Some, None, Result, Ok, Err, if◌then◌else◌}
 use Rattle.std.specs.List.{list_any}
-use Rattle.of_wire.specs.declared.limits.TheConstants.{MOST_GROUPS}
 use Rattle.of_wire.specs.declared.codes.TheConstants.{OFPBAC_BAD_OUT_GROUP, OFPGMFC_BAD_WATCH, OFPGMFC_CHAINED_GROUP, OFPGMFC_GROUP_EXISTS, OFPGMFC_INVALID_GROUP, OFPGMFC_LOOP, OFPGMFC_OUT_OF_GROUPS, OFPGMFC_UNKNOWN_GROUP}
-use Rattle.of_wire.specs.declared.code.Code.{Code}
-use Rattle.of_groups.specs.declared.bucket.Bucket.{Bucket}
-use Rattle.of_groups.specs.declared.group.Group.{Group}
-use Rattle.of_groups.specs.declared.group.GroupKind.{GroupKind}
-use Rattle.of_groups.specs.declared.group.GroupKind.TheVariants.{All, Indirect, FastFailover}
-use Rattle.of_groups.specs.declared.group_fault.GroupFault.{GroupFault}
+use Rattle.of_wire.specs.{declared.limits.TheConstants.MOST_GROUPS, declared.code.Code.Code}
 use Rattle.of_groups.specs.declared.group_fault.GroupFault.TheVariants.{BadWatch, NotOneBucket, Exists, Full, Unknown, AbsentGroup, AbsentWatch, LongChain, Named, NoMemory}
-use Rattle.of_groups.specs.Buckets.{is_badly_watched, any_sends}
-use Rattle.of_groups.specs.Groups.{is_there, any_watches, names, with_group}
+use Rattle.of_groups.specs.{declared.bucket.Bucket.Bucket, declared.group.Group.Group, declared.group.GroupKind.GroupKind}
+use Rattle.of_groups.specs.declared.group.GroupKind.TheVariants.{All, Indirect, FastFailover}
+use Rattle.of_groups.specs.{declared.group_fault.GroupFault.GroupFault, Buckets.is_badly_watched, Buckets.any_sends, Groups.is_there, Groups.any_watches, Groups.names, Groups.with_group}
 use Rattle.of_groups.specs.Chains.{is_long}
 
 -- each fault as an error; running out of memory is none

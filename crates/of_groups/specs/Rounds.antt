@@ -1,9 +1,6 @@
 -- What is known of chains after k rounds. No public clause cites this module.
 use Rattle.std.specs.Prelude.{◌≡◌, ℕ, ◌==◌, ◌&&◌, not, Bool, false, List, [], ◌∷◌, map, if◌then◌else◌}
-use Rattle.of_groups.specs.declared.group.Group.{Group}
-use Rattle.of_groups.specs.declared.chains.Round.{Round}
-use Rattle.of_groups.specs.Groups.{with_group, is_there}
-use Rattle.of_groups.specs.Chains.{leads}
+use Rattle.of_groups.specs.{declared.group.Group.Group, declared.chains.Round.Round, Groups.with_group, Groups.is_there, Chains.leads}
 
 -- no group has that number, with the new one among them
 abbrev pub absent_with : ℕ → List Group → ℕ → Bool

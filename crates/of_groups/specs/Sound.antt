@@ -2,11 +2,7 @@
 use Rattle.std.specs.Prelude.{◌≤◌, Bool, not, ◌&&◌, List, length, IsTrue}
 use Rattle.std.specs.List.{list_all}
 use Rattle.of_actions.specs.Rising.{is_ascending}
-use Rattle.of_groups.specs.declared.group.Group.{Group}
-use Rattle.of_groups.specs.Buckets.{are_fit}
-use Rattle.of_groups.specs.Groups.{group_number, any_named}
-use Rattle.of_groups.specs.Chains.{AreShort}
-use Rattle.of_groups.specs.Faults.{is_absent, is_bad_watch, is_not_one}
+use Rattle.of_groups.specs.{declared.group.Group.Group, Buckets.are_fit, Groups.group_number, Groups.any_named, Chains.AreShort, Faults.is_absent, Faults.is_bad_watch, Faults.is_not_one}
 
 -- at most 16 buckets with actions that are valid there; of INDIRECT one; of FAST-FAILOVER each watches a port or a group
 abbrev pub is_fit_group : Group → Bool

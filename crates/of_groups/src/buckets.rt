@@ -15,8 +15,7 @@ pub struct Buckets {
 
 impl Model for Buckets {
     ghost use Rattle.std.specs.Prelude.{List, IsTrue};
-    ghost use Rattle.of_groups.specs.declared.bucket.Bucket.{Bucket};
-    ghost use Rattle.of_groups.specs.Buckets.{are_fit};
+    ghost use Rattle.of_groups.specs.{declared.bucket.Bucket.Bucket, Buckets.are_fit};
 
     ghost Value = { List Bucket };
 

@@ -1,10 +1,7 @@
 //! Chains of groups, in rounds: after each it is known which groups have one more after them (OpenFlow 1.3.5, 6.5).
 ghost use Rattle.std.specs.Prelude.{◌≡◌, ◌≤◌, ℕ, suc, false, List, length, slice_index_or};
 ghost use Rattle.std.specs.List.{list_any};
-ghost use Rattle.of_groups.specs.declared.group.Group.{Group as AGroup};
-ghost use Rattle.of_groups.specs.Groups.{with_group, any_named as some_named};
-ghost use Rattle.of_groups.specs.Chains.{is_long};
-ghost use Rattle.of_groups.specs.Rounds.{IsRound, known_of, mark_at};
+ghost use Rattle.of_groups.specs.{declared.group.Group.Group as AGroup, Groups.with_group, Groups.any_named as some_named, Chains.is_long, Rounds.IsRound, Rounds.known_of, Rounds.mark_at};
 
 use crate::group::Group;
 use crate::lookup::place_of;

@@ -1,11 +1,7 @@
 //! Why a change of groups is refused (OpenFlow 1.3.5, 6.5).
-ghost use Rattle.std.specs.Prelude.{◌≡◌, ◌≤◌, length};
-ghost use Rattle.std.specs.List.{list_any};
-ghost use Rattle.std.specs.Result.{result_err};
-ghost use Rattle.of_groups.specs.Buckets.{is_badly_watched as watches_badly};
-ghost use Rattle.of_groups.specs.Groups.{with_group};
-ghost use Rattle.of_groups.specs.Rounds.{absent_with};
+ghost use Rattle.std.specs.{Prelude.◌≡◌, Prelude.◌≤◌, Prelude.length, List.list_any, Result.result_err};
 ghost use Rattle.of_groups.specs.Faults.{fault_in, is_bad_watch, is_not_one, naming_fault, add_fault, modify_fault};
+ghost use Rattle.of_groups.specs.{Buckets.is_badly_watched as watches_badly, Groups.with_group, Rounds.absent_with};
 
 use crate::bucket::Bucket;
 use crate::chains::makes_long;

@@ -1,11 +1,8 @@
 //! The groups of a switch.
 ghost use Rattle.std.specs.Prelude.{◌≡◌, ◌≢◌, ◌<◌, [], Some, None, length, slice_get, count_by, OnOk, OnErr};
-ghost use Rattle.std.specs.Option.{option_copied, option_map};
-ghost use Rattle.std.specs.Result.{result_err};
+ghost use Rattle.std.specs.{Option.option_copied, Option.option_map, Result.result_err};
 ghost use Rattle.of_groups.specs.Groups.{new_group, modified_group, with_group, groups_left, counted, bucket_counted, bucket_at, find_group as group_of_number, sends_to as is_sending};
-ghost use Rattle.of_groups.specs.Faults.{fault_in, add_fault, modify_fault, delete_fault};
-ghost use Rattle.of_groups.specs.Sound.{AreSound};
-ghost use Rattle.of_groups.specs.Liveness.{chosen};
+ghost use Rattle.of_groups.specs.{Faults.fault_in, Faults.add_fault, Faults.modify_fault, Faults.delete_fault, Sound.AreSound, Liveness.chosen};
 
 use crate::bucket::Bucket;
 use crate::buckets::Buckets;
@@ -32,9 +29,7 @@ pub struct Groups {
 
 impl Model for Groups {
     ghost use Rattle.std.specs.Prelude.{List};
-    ghost use Rattle.of_groups.specs.declared.group.Group.{Group};
-    ghost use Rattle.of_groups.specs.Sound.{AreSound};
-    ghost use Rattle.of_groups.specs.Liveness.{chosen};
+    ghost use Rattle.of_groups.specs.{declared.group.Group.Group, Sound.AreSound, Liveness.chosen};
 
     ghost Value = { List Group };
 

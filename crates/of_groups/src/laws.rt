@@ -1,8 +1,6 @@
 //! Laws of groups.
 ghost use Rattle.std.specs.Prelude.{◌≡◌, ◌≤◌, ◌<◌, ◌↔◌, ℕ, suc, min, Bool, true, List, Some, length};
-ghost use Rattle.of_groups.specs.declared.group.Group.{Group as AGroup};
-ghost use Rattle.of_groups.specs.Groups.{find_group as group_of_number};
-ghost use Rattle.of_groups.specs.Chains.{is_chain, AreShort, chain, is_long};
+ghost use Rattle.of_groups.specs.{declared.group.Group.Group as AGroup, Groups.find_group as group_of_number, Chains.is_chain, Chains.AreShort, Chains.chain, Chains.is_long};
 ghost use Rattle.of_groups.specs.Liveness.{is_live_group as group_lives, is_live_kind};
 
 /// `chain` is how many groups the longest chain that begins at a group has, and 4 where one has more; and there is a

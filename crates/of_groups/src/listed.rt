@@ -1,11 +1,8 @@
 //! Groups of a list, whether a switch would accept them or not: what they name, and how long chains are (OpenFlow 1.3.5, 5.6.1 and 6.5).
 ghost use Rattle.std.specs.Prelude.{◌≡◌, ℕ, suc, map, false, IfOk};
 ghost use Rattle.std.specs.Option.{option_map_or};
-ghost use Rattle.of_groups.specs.Buckets.{any_sends as some_sends};
-ghost use Rattle.of_groups.specs.Groups.{any_watches as some_watches, any_named as some_named, find_group as group_of_number};
-ghost use Rattle.of_groups.specs.Chains.{chain};
-ghost use Rattle.of_groups.specs.Faults.{is_absent as is_not_there};
-ghost use Rattle.of_groups.specs.Rounds.{length_from, mark_at, marks_of};
+ghost use Rattle.of_groups.specs.{Buckets.any_sends as some_sends, Groups.any_watches as some_watches, Groups.any_named as some_named, Groups.find_group as group_of_number, Chains.chain};
+ghost use Rattle.of_groups.specs.{Faults.is_absent as is_not_there, Rounds.length_from, Rounds.mark_at, Rounds.marks_of};
 
 use crate::chains::mark_of;
 use crate::group::Group;

@@ -1,7 +1,6 @@
 //! What is live, and which buckets of a group run (OpenFlow 1.3.5, 5.6.1).
 ghost use Rattle.std.specs.Prelude.{◌≡◌, ◌≤◌, ℕ, Bool, length, position};
-ghost use Rattle.std.specs.List.{range_with_len};
-ghost use Rattle.std.specs.Option.{option_to_list};
+ghost use Rattle.std.specs.{List.range_with_len, Option.option_to_list};
 ghost use Rattle.of_groups.specs.Liveness.{is_live_bucket as bucket_lives, is_live_kind, is_live_within as lives_within, is_live_group as group_lives, places_of as places_to_run, chosen};
 
 use crate::bucket::Bucket;

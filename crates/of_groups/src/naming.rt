@@ -1,6 +1,5 @@
 //! Which groups a group names (OpenFlow 1.3.5, 6.5).
-ghost use Rattle.std.specs.Prelude.{◌≡◌, ◌==◌, ℕ, Bool};
-ghost use Rattle.std.specs.List.{list_any};
+ghost use Rattle.std.specs.{Prelude.◌≡◌, Prelude.◌==◌, Prelude.ℕ, Prelude.Bool, List.list_any};
 ghost use Rattle.of_groups.specs.Buckets.{sends, any_sends as some_sends, watches as is_watching};
 ghost use Rattle.of_groups.specs.Groups.{any_watches as some_watches, any_named as some_named, names as is_naming, sends_to as is_sending};
 

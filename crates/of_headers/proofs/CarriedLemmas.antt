@@ -1,19 +1,14 @@
 -- What an IP packet carries: read from the whole packet, and from the bytes that its length leaves.
 use Rattle.std.proofs.Common.{◌≡◌, ℕ, ◌+◌, ◌-◌, ◌*◌, ◌<◌, ◌≤◌, min, Bool, true, false, cond, List, [], ◌∷◌, ◌++◌, length, get_or, take, drop, refl, sym, ap, ◌∙◌, arith}
-use Rattle.std.specs.Prelude.{nat_le}
-use Rattle.std.specs.Option.{option_or}
-use Rattle.std.proofs.lemmas.Bool.{leb-true}
+use Rattle.std.{specs.Prelude.nat_le, specs.Option.option_or, proofs.lemmas.Bool.leb-true}
 use Rattle.std.proofs.lemmas.List.{get_or-drop, get_or-take, length-drop, length-take}
-use Rattle.of_layers.specs.declared.transport.Transport.{Transport}
 use Rattle.of_layers.specs.declared.transport.Transport.TheVariants.{Nothing, Tcp, Udp, Icmpv4, Icmpv6}
 use Rattle.of_layers.specs.Layers.{size_of, items_of, cells_in, byte_cells, carried_cells, body_cells, ipv4}
 use Rattle.of_layers.specs.Reading.{word, double, numbers_of, whole_in, carried_of, header_size, is_ipv4, ipv4_of, ipv4_numbers, ipv4_kind, ipv4_inside}
-use Rattle.of_layers.specs.Looking.{look_up}
-use Rattle.of_headers.specs.declared.layout.Payload.{Payload}
-use Rattle.of_headers.specs.declared.layout.Network.TheVariants as network
-use Rattle.of_headers.specs.Places.{network_of}
-use Rattle.of_headers.proofs.LayoutLemmas.{IsWhole, whole_ipv4, inside_room}
+use Rattle.of_layers.specs.{declared.transport.Transport.Transport, Looking.look_up}
+use Rattle.of_headers.{specs.declared.layout.Payload.Payload, specs.Places.network_of, proofs.LayoutLemmas.IsWhole, proofs.LayoutLemmas.whole_ipv4, proofs.LayoutLemmas.inside_room}
 use Rattle.of_headers.proofs.LookLemmas.{look-append, look_front, look_behind}
+use Rattle.of_headers.specs.declared.layout.Network.TheVariants as network
 
 -- ---- a header is read from its own bytes alone
 

@@ -1,11 +1,10 @@
 -- The extension headers of an IPv6 packet, one at a time.
 use Rattle.std.proofs.Common.{◌≡◌, ℕ, zero, suc, ◌+◌, ◌-◌, ◌*◌, ◌/◌, ◌<◌, ◌≤◌, Bool, true, false, cond, ◌&&◌, ◌||◌, List, length, get_or, take, drop, refl, sym, ap, ◌∙◌, arith}
-use Rattle.std.specs.Prelude.{nat_le, not, ◌==◌}
-use Rattle.std.proofs.lemmas.Bool.{leb-true}
+use Rattle.std.{specs.Prelude.nat_le, specs.Prelude.not, specs.Prelude.◌==◌, proofs.lemmas.Bool.leb-true}
 use Rattle.std.proofs.lemmas.List.{drop-drop, length-drop, length-take}
-use Rattle.of_layers.specs.declared.transport.Transport.TheVariants.{Nothing}
 use Rattle.of_layers.specs.Layers.{Extension, Options, Fragment, extension_bytes, all_bytes}
 use Rattle.of_layers.specs.Reading.{Chain, behind_extension, ends_as, word, over_ipv6, whole_in, has_options, is_fragment, extension_size, has_extension, is_later, extension_of, options_numbers, fragment_numbers, chain_of}
+use Rattle.of_layers.specs.declared.transport.Transport.TheVariants.{Nothing}
 use Rattle.of_headers.specs.declared.layout.Network.TheVariants as network
 use Rattle.of_headers.specs.Places.{protocol_at, network_behind}
 

@@ -1,29 +1,18 @@
 -- The fields of a frame, layer by layer.
 use Rattle.std.proofs.Common.{◌≡◌, ℕ, suc, ◌+◌, ◌-◌, ◌*◌, ◌/◌, ◌%◌, ◌<◌, ◌≤◌, min, Bool, true, false, cond, ◌&&◌, List, [], ◌∷◌, ◌++◌, length, get_or, set, take, drop, Option, Some, None, refl, sym, ap, ◌∙◌, arith}
-use Rattle.std.specs.Prelude.{◌==◌, nat_le}
-use Rattle.std.specs.Option.{option_or}
-use Rattle.std.proofs.lemmas.Bool.{leb-true}
-use Rattle.std.proofs.lemmas.List.{get_or-drop, get_or-take, length-drop, length-take}
-use Rattle.of_layers.specs.declared.field.Field.{Field}
+use Rattle.std.{specs.Prelude.◌==◌, specs.Prelude.nat_le, specs.Option.option_or, proofs.lemmas.Bool.leb-true}
+use Rattle.std.proofs.{lemmas.List.get_or-drop, lemmas.List.get_or-take, lemmas.List.length-drop, lemmas.List.length-take, Math.Path.fun_ext}
 use Rattle.of_layers.specs.declared.field.Field.TheVariants.{InPort, Metadata, VlanVid, VlanPcp, IpProto}
-use Rattle.of_layers.specs.Fields.{row_of, number_of}
 use Rattle.of_layers.specs.Layers.{Layers, Cell, Body, Extension, cells, cells_in, byte_cells, tag_cells, extension_cells, carried_cells, body_cells, next_before, all_bytes, named, size_of, addresses, outer_tag, ether_type, arp, ipv6, items_of, Plain}
 use Rattle.of_layers.specs.Reading.{word, six, tag_count, tags_of, tag_numbers, numbers_of, is_arp, arp_of, arp_numbers, is_ipv4, ipv4_of, is_ipv6, ipv6_of, ipv6_numbers, ipv6_inside, ipv6_chain, body_of, layers_of}
-use Rattle.of_layers.specs.Looking.{look_up, look}
+use Rattle.of_layers.specs.{declared.field.Field.Field, Fields.row_of, Fields.number_of, Looking.look_up, Looking.look}
 use Rattle.of_layers.proofs.TagLemmas.{length-tags_of, tag_room}
-use Rattle.of_headers.specs.declared.key.FieldKey.{FieldKey}
-use Rattle.of_headers.specs.declared.layout.Layout.{Layout}
-use Rattle.of_headers.specs.declared.layout.Payload.{Payload}
-use Rattle.of_headers.specs.declared.layout.Network.TheVariants as network
-use Rattle.of_headers.specs.FieldMap.{value, field_map, vid}
-use Rattle.std.proofs.Math.Path.{fun_ext}
-use Rattle.of_headers.specs.Parts.{untagged, tagged}
-use Rattle.of_headers.specs.Places.{protocol_at, network_of, layout_of}
-use Rattle.of_headers.proofs.ChainLemmas.{and_right}
 use Rattle.of_headers.proofs.LayoutLemmas.{body_arp, body_ipv4, body_ipv6, body_plain, least_ipv6}
 use Rattle.of_headers.proofs.LookLemmas.{look-append, look_bytes, look_front, look_tags, or_none, or_assoc, lacks_body, vid_outer}
-use Rattle.of_headers.proofs.CarriedLemmas.{numbers_cut}
-use Rattle.of_headers.proofs.WalkLemmas.{IsWalk, proto_in, walk_is, header_next}
+use Rattle.of_headers.specs.{declared.key.FieldKey.FieldKey, declared.layout.Layout.Layout, declared.layout.Payload.Payload, FieldMap.value, FieldMap.field_map, FieldMap.vid}
+use Rattle.of_headers.{specs.Parts.untagged, specs.Parts.tagged, specs.Places.protocol_at, specs.Places.network_of, specs.Places.layout_of, proofs.ChainLemmas.and_right}
+use Rattle.of_headers.proofs.{CarriedLemmas.numbers_cut, WalkLemmas.IsWalk, WalkLemmas.proto_in, WalkLemmas.walk_is, WalkLemmas.header_next}
+use Rattle.of_headers.specs.declared.layout.Network.TheVariants as network
 
 -- ---- IPv6
 

@@ -1,18 +1,12 @@
 -- Where the layers of a packet begin, and of a frame.
 use Rattle.std.proofs.Common.{◌≡◌, ℕ, ◌+◌, ◌-◌, ◌*◌, ◌%◌, ◌/◌, ◌≤◌, ◌≢◌, min, Bool, true, false, cond, ◌&&◌, List, length, get_or, take, drop, refl, sym, ap, ◌∙◌, arith}
-use Rattle.std.specs.Prelude.{nat_le, ◌==◌}
-use Rattle.std.proofs.lemmas.Bool.{leb-true, eq-eqb, ne_eqb}
+use Rattle.std.{specs.Prelude.nat_le, specs.Prelude.◌==◌, proofs.lemmas.Bool.leb-true, proofs.lemmas.Bool.eq-eqb, proofs.lemmas.Bool.ne_eqb}
 use Rattle.std.proofs.lemmas.List.{length-drop, length-take}
-use Rattle.of_layers.specs.declared.transport.Transport.{Transport}
-use Rattle.of_layers.specs.declared.transport.Transport.TheVariants.{Nothing}
-use Rattle.of_layers.specs.Layers.{Plain}
 use Rattle.of_layers.specs.Reading.{word, header_size, is_arp, arp_of, is_ipv4, ipv4_of, ipv4_kind, ipv4_inside, over_ipv4, whole_in, is_ipv6, ipv6_of, chain_of, body_of, tag_count, tags_of, layers_of}
-use Rattle.of_headers.specs.declared.layout.Network.{Network}
-use Rattle.of_headers.specs.declared.layout.Network.TheVariants as network
-use Rattle.of_headers.specs.declared.layout.Layout.{Layout}
-use Rattle.of_headers.specs.Places.{network_behind, network_of, layout_of}
-use Rattle.of_layers.proofs.TagLemmas.{length-tags_of}
+use Rattle.of_layers.{specs.declared.transport.Transport.Transport, specs.declared.transport.Transport.TheVariants.Nothing, specs.Layers.Plain, proofs.TagLemmas.length-tags_of}
+use Rattle.of_headers.specs.{declared.layout.Network.Network, declared.layout.Layout.Layout, Places.network_behind, Places.network_of, Places.layout_of}
 use Rattle.of_headers.proofs.ChainLemmas.{and_left, nothing_in}
+use Rattle.of_headers.specs.declared.layout.Network.TheVariants as network
 
 -- ---- IPv4
 

@@ -1,10 +1,8 @@
 -- The place of a field among cells, and how many bits cells take.
 use Rattle.std.proofs.Common.{◌≡◌, ℕ, zero, suc, ◌+◌, ◌*◌, ◌^◌, ◌<◌, ◌≤◌, ◌%◌, Bool, true, false, cond, List, [], ◌∷◌, ◌++◌, length, drop, Option, Some, None, refl, sym, ap, ◌∙◌, arith}
 use Rattle.std.specs.Option.{option_or}
-use Rattle.of_layers.specs.declared.place.Place.{Place}
 use Rattle.of_layers.specs.Layers.{Cell, byte_cells, cells_in, inner_cells, tag_cells, outer_tag}
-use Rattle.of_layers.specs.Reading.{tags_of, tag_numbers}
-use Rattle.of_layers.specs.Looking.{name_is, locate_at}
+use Rattle.of_layers.specs.{declared.place.Place.Place, Reading.tags_of, Reading.tag_numbers, Looking.name_is, Looking.locate_at}
 use Rattle.of_headers.specs.Places.{width}
 
 -- ---- parts of cells

@@ -1,14 +1,9 @@
 -- Looking a field up in cells.
 use Rattle.std.proofs.Common.{◌≡◌, ℕ, zero, suc, Bool, true, false, cond, ◌&&◌, List, [], ◌∷◌, ◌++◌, drop, Option, Some, None, refl, sym, ap, ◌∙◌}
-use Rattle.std.specs.Prelude.{not}
-use Rattle.std.specs.Option.{option_or}
-use Rattle.of_layers.specs.declared.field.Field.TheVariants.{VlanVid}
-use Rattle.of_layers.specs.declared.transport.Transport.{Transport}
-use Rattle.of_layers.specs.declared.transport.Transport.TheVariants.{Nothing}
-use Rattle.of_layers.specs.Fields.{row_of, number_of}
+use Rattle.std.specs.{Prelude.not, Option.option_or}
 use Rattle.of_layers.specs.Layers.{Item, Cell, Extension, Options, Fragment, Body, Plain, Arp, Ipv4, Ipv6, Carried, cells_in, byte_cells, inner_cells, tag_cells, extension_cells, carried_cells, body_cells, next_before, outer_tag, arp, ipv4, ipv6, options, fragment, items_of}
-use Rattle.of_layers.specs.Reading.{tags_of, tag_numbers}
-use Rattle.of_layers.specs.Looking.{name_is, look_up}
+use Rattle.of_layers.specs.{declared.field.Field.TheVariants.VlanVid, declared.transport.Transport.Transport, declared.transport.Transport.TheVariants.Nothing, Fields.row_of, Fields.number_of}
+use Rattle.of_layers.specs.{Reading.tags_of, Reading.tag_numbers, Looking.name_is, Looking.look_up}
 
 pub look-append : (n : ℕ) (a b : List Cell) → look_up n (a ++ b) ≡ option_or (look_up n a) (look_up n b)
 look-append n [] b = refl

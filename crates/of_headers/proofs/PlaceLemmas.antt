@@ -1,26 +1,16 @@
 -- The places of the fields of a frame, layer by layer.
 use Rattle.std.proofs.Common.{◌≡◌, ℕ, zero, suc, ◌+◌, ◌-◌, ◌*◌, ◌^◌, ◌<◌, ◌≤◌, min, Bool, true, false, cond, ◌&&◌, List, [], ◌∷◌, ◌++◌, length, take, drop, Option, Some, None, refl, sym, ap, ◌∙◌, arith}
-use Rattle.std.specs.Prelude.{◌==◌}
-use Rattle.std.specs.Option.{option_or}
-use Rattle.std.proofs.lemmas.List.{length-drop, length-take}
-use Rattle.of_layers.specs.declared.field.Field.{Field}
-use Rattle.of_layers.specs.declared.field.Field.TheVariants.{InPort, IpProto}
-use Rattle.of_layers.specs.declared.place.Place.{Place}
-use Rattle.of_layers.specs.declared.transport.Transport.{Transport}
-use Rattle.of_layers.specs.declared.transport.Transport.TheVariants.{Nothing}
-use Rattle.of_layers.specs.Fields.{row_of, number_of}
+use Rattle.std.{specs.Prelude.◌==◌, specs.Option.option_or, proofs.lemmas.List.length-drop, proofs.lemmas.List.length-take}
 use Rattle.of_layers.specs.Layers.{Cell, Body, Carried, Extension, Plain, cells, cells_in, byte_cells, tag_cells, extension_cells, carried_cells, body_cells, next_before, all_bytes, named, size_of, addresses, outer_tag, ether_type, arp, ipv4, ipv6, items_of}
 use Rattle.of_layers.specs.Reading.{word, six, tag_count, tags_of, tag_numbers, numbers_of, is_arp, arp_of, arp_numbers, is_ipv4, ipv4_of, ipv4_numbers, ipv4_kind, ipv4_inside, header_size, carried_of, whole_in, is_ipv6, ipv6_of, ipv6_numbers, ipv6_chain, body_of, layers_of}
-use Rattle.of_layers.specs.Looking.{locate_at}
-use Rattle.of_headers.specs.declared.layout.Payload.{Payload}
-use Rattle.of_headers.specs.declared.layout.Network.TheVariants as network
-use Rattle.of_headers.specs.Places.{width, protocol_at, network_of}
-use Rattle.of_headers.proofs.ChainLemmas.{and_right}
+use Rattle.of_layers.specs.{declared.field.Field.Field, declared.field.Field.TheVariants.InPort, declared.field.Field.TheVariants.IpProto, declared.place.Place.Place}
+use Rattle.of_layers.specs.{declared.transport.Transport.Transport, declared.transport.Transport.TheVariants.Nothing, Fields.row_of, Fields.number_of, Looking.locate_at}
 use Rattle.of_headers.proofs.LayoutLemmas.{IsWhole, whole_ipv4, inside_room, body_arp, body_ipv4, body_ipv6, body_plain}
 use Rattle.of_headers.proofs.LocateLemmas.{locate-append, locate_bytes, locate_front, locate_behind, place_or_assoc, width-append, width_bytes, width_tags, locate_tags}
-use Rattle.of_headers.proofs.CarriedLemmas.{IsIpv4Payload, size_fits}
-use Rattle.of_headers.proofs.WalkLemmas.{placed_in}
 use Rattle.of_headers.proofs.KeyLemmas.{ipv6_walk, IsIpv6Payload, plain_at, arp_at, least_arp, packet_of}
+use Rattle.of_headers.{specs.declared.layout.Payload.Payload, specs.Places.width, specs.Places.protocol_at, specs.Places.network_of, proofs.ChainLemmas.and_right}
+use Rattle.of_headers.proofs.{CarriedLemmas.IsIpv4Payload, CarriedLemmas.size_fits, WalkLemmas.placed_in}
+use Rattle.of_headers.specs.declared.layout.Network.TheVariants as network
 
 -- ---- what an IP packet carries
 

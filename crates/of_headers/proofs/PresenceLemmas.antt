@@ -1,18 +1,10 @@
 -- Words of presence and numbers of keys: bit by bit, and place by place.
 use Rattle.std.proofs.Common.{◌≡◌, ℕ, zero, suc, ◌*◌, ◌^◌, ◌<◌, ◌≢◌, min, max, Bool, true, false, cond, List, [], ◌∷◌, length, get_or, set, replicate, Some, None, refl, sym, ap, ◌∙◌, arith, get_or-set_same, get_or-set_other}
-use Rattle.std.specs.Prelude.{◌==◌, bit_and, bit_or}
-use Rattle.std.specs.Int.{bit_at}
-use Rattle.std.specs.Int.Bits.{and_zero_r}
-use Rattle.std.proofs.lemmas.Bool.{eqb-true, eq-eqb}
-use Rattle.std.proofs.lemmas.Nat.{pow_pos}
 use Rattle.std.proofs.lemmas.Nat.Bits.{and_pow, bit_at-lt, bit_at-zero, bit_at_and, bit_at_or, bit_at-pow_same, bit_at-pow_other, same_from_bits}
-use Rattle.of_layers.specs.declared.field.Field.{Field}
-use Rattle.of_layers.specs.declared.field.Field.TheVariants.{InPort}
-use Rattle.of_layers.specs.Fields.{row_of, number_of}
-use Rattle.of_layers.proofs.Table.{number_below}
-use Rattle.of_headers.specs.declared.key.FieldKey.{FieldKey}
-use Rattle.of_headers.specs.Presence.{AreFields, AbsentAreZero, all_bits}
-use Rattle.of_headers.specs.Numbers.{numbers_in, bits_both, bits_either}
+use Rattle.std.{specs.Prelude.◌==◌, specs.Prelude.bit_and, specs.Prelude.bit_or, specs.Int.bit_at, specs.Int.Bits.and_zero_r, proofs.lemmas.Bool.eqb-true, proofs.lemmas.Bool.eq-eqb}
+use Rattle.std.proofs.lemmas.Nat.{pow_pos}
+use Rattle.of_layers.{specs.declared.field.Field.Field, specs.declared.field.Field.TheVariants.InPort, specs.Fields.row_of, specs.Fields.number_of, proofs.Table.number_below}
+use Rattle.of_headers.specs.{declared.key.FieldKey.FieldKey, Presence.AreFields, Presence.AbsentAreZero, Presence.all_bits, Numbers.numbers_in, Numbers.bits_both, Numbers.bits_either}
 use Rattle.of_headers.specs.FieldMap.{there, value, seen, either}
 
 -- ---- fewer fields: the bits of both words, and of the numbers in one place

@@ -1,16 +1,8 @@
 -- Numbers that are put into a key: one for each field of a layer.
 use Rattle.std.proofs.Common.{◌≡◌, ℕ, zero, suc, ◌<◌, cond, List, get_or, Option, Some, None, refl, sym, ap, ◌∙◌, arith}
-use Rattle.std.specs.Prelude.{◌==◌, bit_or}
-use Rattle.std.specs.Int.{bit_at}
-use Rattle.std.specs.Option.{option_or}
-use Rattle.std.proofs.lemmas.Nat.Bits.{bit_at-lt, bit_at_or}
-use Rattle.of_layers.specs.declared.field.Field.{Field}
-use Rattle.of_layers.specs.Fields.{number_of}
-use Rattle.of_headers.specs.declared.key.FieldKey.{FieldKey}
-use Rattle.of_headers.specs.declared.numbers.Numbers.{Numbers}
-use Rattle.of_headers.specs.Presence.{AbsentAreZero}
-use Rattle.of_headers.specs.Numbers.{numbers_in}
-use Rattle.of_headers.specs.FieldMap.{there, value}
+use Rattle.std.{specs.Prelude.◌==◌, specs.Prelude.bit_or, specs.Int.bit_at, specs.Option.option_or, proofs.lemmas.Nat.Bits.bit_at-lt, proofs.lemmas.Nat.Bits.bit_at_or}
+use Rattle.of_layers.specs.{declared.field.Field.Field, Fields.number_of}
+use Rattle.of_headers.specs.{declared.key.FieldKey.FieldKey, declared.numbers.Numbers.Numbers, Presence.AbsentAreZero, Numbers.numbers_in, FieldMap.there, FieldMap.value}
 
 bit_more : (p w n : ℕ) → bit_at w n ≡ 1 → bit_at (bit_or p w) n ≡ 1
 bit_more p w n h = omega (arith, bit_at_or p w n, bit_at-lt p n)

@@ -1,21 +1,12 @@
 -- Keys with the same fields are the same, and `==` tells keys apart.
 use Rattle.std.proofs.Common.{◌≡◌, ℕ, zero, suc, ◌<◌, Bool, true, false, cond, eqb, ◌&&◌, List, [], ◌∷◌, get_or, subst, Option, Some, None, refl, sym, ◌∙◌, arith}
-use Rattle.std.specs.Prelude.{◌==◌, ◌^◌, find, map}
-use Rattle.std.specs.Int.{bit_at}
-use Rattle.std.proofs.Math.Nat.{ℕ_set}
-use Rattle.std.proofs.lemmas.Bool.{eqb-true, eq-eqb}
-use mathlib.Core.HLevel.{is_prop→PathP}
 use Rattle.std.proofs.lemmas.Nat.Bits.{bit_at-lt, bit_at-zero, bit_at_or, bit_at-pow_other, same_from_bits}
-use Rattle.of_layers.specs.declared.field.Field.{Field}
-use Rattle.of_layers.specs.Fields.{row_of, number_of, field_at, all_fields}
-use Rattle.of_layers.proofs.Table.{number_of-field_at}
-use Rattle.of_headers.specs.declared.numbers.Numbers.{Numbers}
-use Rattle.of_headers.specs.declared.key.FieldKey.{FieldKey}
+use Rattle.std.{specs.Prelude.◌==◌, specs.Prelude.◌^◌, specs.Prelude.find, specs.Prelude.map, specs.Int.bit_at, proofs.Math.Nat.ℕ_set, proofs.lemmas.Bool.eqb-true, proofs.lemmas.Bool.eq-eqb}
+use mathlib.Core.HLevel.{is_prop→PathP}
+use Rattle.of_layers.{specs.declared.field.Field.Field, specs.Fields.row_of, specs.Fields.number_of, specs.Fields.field_at, specs.Fields.all_fields, proofs.Table.number_of-field_at}
+use Rattle.of_headers.specs.{declared.numbers.Numbers.Numbers, declared.key.FieldKey.FieldKey, Numbers.numbers_in, Presence.AreFields, Presence.AbsentAreZero, Presence.word_of, Presence.all_bits}
+use Rattle.of_headers.{specs.FieldMap.value, proofs.PresenceLemmas.within}
 use Rattle.of_headers.specs.contracts.key.FieldKeyPartialEq.TheImpl as the_key
-use Rattle.of_headers.specs.Numbers.{numbers_in}
-use Rattle.of_headers.specs.Presence.{AreFields, AbsentAreZero, word_of, all_bits}
-use Rattle.of_headers.specs.FieldMap.{value}
-use Rattle.of_headers.proofs.PresenceLemmas.{within}
 
 -- ---- one field
 

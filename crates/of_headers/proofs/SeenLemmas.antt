@@ -1,16 +1,9 @@
 -- What is seen of a key under a mask, field by field.
 use Rattle.std.proofs.Common.{◌≡◌, ℕ, [], ◌∷◌, get_or, refl, ap, ◌∙◌, arith, inl, inr}
-use Rattle.std.specs.Prelude.{bit_and}
-use Rattle.std.specs.Int.{bit_at}
-use Rattle.std.proofs.lemmas.Nat.Bits.{bit_at_and, bit_at-zero}
-use Rattle.of_layers.specs.declared.field.Field.{Field}
+use Rattle.std.{specs.Prelude.bit_and, specs.Int.bit_at, proofs.lemmas.Nat.Bits.bit_at_and, proofs.lemmas.Nat.Bits.bit_at-zero}
 use Rattle.of_layers.specs.declared.field.Field.TheVariants.{TcpSrc, TcpDst, UdpSrc, UdpDst, InPort, Metadata, EthDst, EthSrc, VlanVid, VlanPcp, EthType, IpDscp, IpEcn, IpProto, Ipv4Src, Ipv4Dst, Icmpv4Type, Icmpv4Code, ArpOp, ArpSpa, ArpTpa, ArpSha, ArpTha, Ipv6Src, Ipv6Dst, Ipv6Flabel, Icmpv6Type, Icmpv6Code}
-use Rattle.of_layers.specs.Fields.{row_of, number_of}
-use Rattle.of_headers.specs.declared.key.FieldKey.{FieldKey}
-use Rattle.of_headers.specs.declared.numbers.Numbers.{Numbers}
-use Rattle.of_headers.specs.FieldMap.{there, value, seen}
-use Rattle.of_headers.specs.Numbers.{numbers_in}
-use Rattle.of_headers.specs.Seeing.{IsSeen, AreSeen}
+use Rattle.of_layers.specs.{declared.field.Field.Field, Fields.row_of, Fields.number_of}
+use Rattle.of_headers.specs.{declared.key.FieldKey.FieldKey, declared.numbers.Numbers.Numbers, FieldMap.there, FieldMap.value, FieldMap.seen, Numbers.numbers_in, Seeing.IsSeen, Seeing.AreSeen}
 use Rattle.of_headers.proofs.PresenceLemmas.{there_under}
 
 -- a mask without any of these bits lacks the field of each

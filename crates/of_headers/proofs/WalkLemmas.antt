@@ -1,21 +1,12 @@
 -- What the extension headers of an IPv6 packet say of their packet.
 use Rattle.std.proofs.Common.{◌≡◌, ℕ, zero, suc, ◌+◌, ◌-◌, ◌*◌, ◌<◌, ◌≤◌, Bool, true, false, cond, List, [], ◌∷◌, length, get_or, set, take, drop, Option, Some, None, refl, sym, ap, ◌∙◌, subst, arith}
-use Rattle.std.specs.Prelude.{◌==◌}
-use Rattle.std.specs.Option.{option_or}
-use Rattle.std.proofs.lemmas.List.{get_or-drop, length-drop}
-use Rattle.of_layers.specs.declared.field.Field.{Field}
-use Rattle.of_layers.specs.declared.field.Field.TheVariants.{InPort, IpProto}
-use Rattle.of_layers.specs.declared.transport.Transport.{Transport}
-use Rattle.of_layers.specs.declared.transport.Transport.TheVariants.{Nothing}
-use Rattle.of_layers.specs.Fields.{row_of, number_of}
+use Rattle.std.{specs.Prelude.◌==◌, specs.Option.option_or, proofs.lemmas.List.get_or-drop, proofs.lemmas.List.length-drop}
 use Rattle.of_layers.specs.Layers.{Extension, Options, Fragment, extension_bytes, all_bytes, extension_cells, byte_cells, size_of, cells_in, ipv6, named, next_before}
 use Rattle.of_layers.specs.Reading.{Chain, behind_extension, ends_as, over_ipv6, is_fragment, extension_size, has_extension, is_later, extension_of, options_numbers, fragment_numbers, ipv6_numbers, numbers_of, chain_of}
-use Rattle.of_layers.specs.declared.place.Place.{Place}
-use Rattle.of_layers.specs.Looking.{look_up, look, locate_at}
-use Rattle.of_headers.specs.Places.{protocol_at, width}
+use Rattle.of_layers.specs.{declared.field.Field.Field, declared.field.Field.TheVariants.InPort, declared.field.Field.TheVariants.IpProto, declared.transport.Transport.Transport}
+use Rattle.of_layers.specs.{declared.transport.Transport.TheVariants.Nothing, Fields.row_of, Fields.number_of, declared.place.Place.Place, Looking.look_up, Looking.look, Looking.locate_at}
 use Rattle.of_headers.proofs.ChainLemmas.{chain_stop, chain_later, chain_more, eight_fit, extension_is, later_size, drops, size_fits as extension_fits}
-use Rattle.of_headers.proofs.CarriedLemmas.{size_fits}
-use Rattle.of_headers.proofs.LookLemmas.{look_behind, or_none}
+use Rattle.of_headers.{specs.Places.protocol_at, specs.Places.width, proofs.CarriedLemmas.size_fits, proofs.LookLemmas.look_behind, proofs.LookLemmas.or_none}
 use Rattle.of_headers.proofs.LocateLemmas.{locate_behind, width-append, width_bytes}
 
 -- the protocol is named by the last extension header, if there is any

@@ -1,8 +1,7 @@
 -- One number for all fields of a key, which depends on a secret: equal keys have the same one.
 use Rattle.std.specs.Prelude.{ℕ, ◌+◌, ◌*◌, ◌/◌, ◌%◌, ◌^◌, bit_xor, List, [], ◌∷◌}
 use Rattle.std.specs.List.{fold}
-use Rattle.of_headers.specs.declared.mixer.Mixer.{Mixer}
-use Rattle.of_headers.specs.declared.numbers.Numbers.{Numbers}
+use Rattle.of_headers.specs.{declared.mixer.Mixer.Mixer, declared.numbers.Numbers.Numbers}
 
 -- ---- numbers mixed under a secret
 

@@ -1,7 +1,6 @@
 -- Why the switch does not accept bytes as a frame.
 use Rattle.std.specs.Prelude.{nat_lt, if◌then◌else◌, ℕ, List, length, Option, Some, None}
-use Rattle.of_headers.specs.declared.headers.FrameFault.{FrameFault}
-use Rattle.of_headers.specs.declared.headers.FrameFault.TheVariants.{Short, Long}
+use Rattle.of_headers.specs.{declared.headers.FrameFault.FrameFault, declared.headers.FrameFault.TheVariants.Short, declared.headers.FrameFault.TheVariants.Long}
 
 -- two addresses and a type have 14 bytes (IEEE 802.3, 3.1.1)
 abbrev pub inside_fault : List ℕ → Option FrameFault

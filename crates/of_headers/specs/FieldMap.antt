@@ -1,13 +1,9 @@
 -- Field maps: the value of each field, or none where it is absent (OpenFlow 1.3.5, 5.3 and 7.2.3.7).
 use Rattle.std.specs.Prelude.{ℕ, ◌+◌, ◌==◌, if◌then◌else◌, slice_index, bit_and, bit_or, Option, Some, None}
 use Rattle.std.specs.Int.{bit_at}
-use Rattle.of_layers.specs.declared.field.Field.{Field}
-use Rattle.of_layers.specs.declared.field.Field.TheVariants.{InPort, Metadata, VlanVid}
-use Rattle.of_layers.specs.Fields.{number_of}
-use Rattle.of_layers.specs.Layers.{Layers, cells}
-use Rattle.of_layers.specs.Looking.{look}
-use Rattle.of_headers.specs.declared.key.FieldKey.{FieldKey}
-use Rattle.of_headers.specs.Numbers.{numbers_in}
+use Rattle.of_layers.specs.{declared.field.Field.Field, declared.field.Field.TheVariants.InPort, declared.field.Field.TheVariants.Metadata, declared.field.Field.TheVariants.VlanVid}
+use Rattle.of_layers.specs.{Fields.number_of, Layers.Layers, Layers.cells, Looking.look}
+use Rattle.of_headers.specs.{declared.key.FieldKey.FieldKey, Numbers.numbers_in}
 
 -- ---- the field map of a frame
 

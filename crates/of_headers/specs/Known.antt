@@ -1,9 +1,7 @@
 -- What is known of the headers of a frame: for contracts of the crates that rewrite frames.
 use Rattle.std.specs.Prelude.{◌≡◌, ℕ, List, ⊤}
 use Rattle.of_layers.specs.Reading.{layers_of}
-use Rattle.of_headers.specs.FieldMap.{value, field_map}
-use Rattle.of_headers.specs.Places.{layout_of}
-use Rattle.of_headers.specs.declared.known.Known.{Known}
+use Rattle.of_headers.specs.{FieldMap.value, FieldMap.field_map, Places.layout_of, declared.known.Known.Known}
 use Rattle.of_headers.specs.declared.known.Known.TheVariants.{Nothing, Places, Fields}
 
 -- it is what a new reading would give; fields are those of the frame at port 0, without metadata

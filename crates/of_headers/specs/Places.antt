@@ -1,9 +1,8 @@
 -- Where the layers of a frame begin, and how many bits its cells take.
 use Rattle.std.specs.Prelude.{ℕ, ◌+◌, List, [], ◌∷◌, length}
-use Rattle.of_layers.specs.Reading.{Chain}
 use Rattle.of_layers.specs.Layers.{Cell, Extension, extension_bytes, all_bytes, Body, Plain, Arp, Ipv4, Ipv6, Layers}
-use Rattle.of_headers.specs.declared.layout.Layout.{Layout}
-use Rattle.of_headers.specs.declared.layout.Network.{Network}
+use Rattle.of_layers.specs.Reading.{Chain}
+use Rattle.of_headers.specs.{declared.layout.Layout.Layout, declared.layout.Network.Network}
 use Rattle.of_headers.specs.declared.layout.Network.TheVariants as network
 
 -- the byte of the number that names what is carried, where `named` is that of the first extension header, which begins at `at`

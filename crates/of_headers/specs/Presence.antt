@@ -1,8 +1,7 @@
 -- Which fields a key has: bit n of a word says whether the field of number n is present.
 use Rattle.std.specs.Prelude.{◌≡◌, ℕ, ◌^◌, List, [], ◌∷◌, slice_index, bit_and, bit_or}
 use Rattle.std.specs.Int.{bit_at}
-use Rattle.of_layers.specs.declared.field.Field.{Field}
-use Rattle.of_layers.specs.Fields.{number_of, all_fields}
+use Rattle.of_layers.specs.{declared.field.Field.Field, Fields.number_of, Fields.all_fields}
 
 -- the word of some fields
 abbrev pub word_of : List Field → ℕ

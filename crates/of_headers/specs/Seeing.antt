@@ -1,8 +1,7 @@
 -- For contracts inside this crate: numbers of a key that are what is seen of another one under a mask.
 use Rattle.std.specs.Prelude.{◌≡◌, ◌⊎◌, ℕ, List, [], ◌∷◌, slice_index, bit_and}
 use Rattle.std.specs.Int.{bit_at}
-use Rattle.of_headers.specs.declared.numbers.Numbers.{Numbers}
-use Rattle.of_headers.specs.Numbers.{numbers_in}
+use Rattle.of_headers.specs.{declared.numbers.Numbers.Numbers, Numbers.numbers_in}
 
 -- the mask lacks the field of that number, or its value has the bits that the key and the mask both have
 abbrev pub IsSeen : Numbers → Numbers → Numbers → ℕ → Type 0

@@ -1,9 +1,7 @@
 //! Keys as field maps: one field read, one field added, all fields under a mask.
 
 ghost use Rattle.std.specs.Prelude.{◌≡◌, ◌≤◌, ◌^◌, ◌==◌, ℕ, if◌then◌else◌, Some, None, IsTrue};
-ghost use Rattle.of_layers.specs.Layers.{Layers};
-ghost use Rattle.of_layers.specs.declared.field.Field.{Field as TheField};
-ghost use Rattle.of_layers.specs.Fields.{number_of, ones_of};
+ghost use Rattle.of_layers.specs.{Layers.Layers, declared.field.Field.Field as TheField, Fields.number_of, Fields.ones_of};
 ghost use Rattle.of_headers.specs.FieldMap.{value, field_map, seen, either};
 
 use crate::key::FieldKey;

@@ -2,12 +2,8 @@
 
 ghost use Rattle.std.specs.Prelude.{◌≡◌, ◌≤◌, ◌<◌, ◌*◌, ◌^◌, ℕ, List, length, IfOk};
 ghost use Rattle.std.specs.Result.{result_err};
-ghost use Rattle.of_layers.specs.Layers.{cells};
-ghost use Rattle.of_layers.specs.Looking.{locate};
-ghost use Rattle.of_layers.specs.Reading.{layers_of};
-ghost use Rattle.of_headers.specs.FieldMap.{value, field_map};
-ghost use Rattle.of_headers.specs.Places.{layout_of};
-ghost use Rattle.of_headers.specs.Faults.{frame_fault, inside_fault};
+ghost use Rattle.of_layers.specs.{Layers.cells, Looking.locate, Reading.layers_of};
+ghost use Rattle.of_headers.specs.{FieldMap.value, FieldMap.field_map, Places.layout_of, Faults.frame_fault, Faults.inside_fault};
 
 use crate::key::FieldKey;
 use crate::layout::{Layout, layout_in};

@@ -1,7 +1,6 @@
 //! The fields of one frame, each absent or a value.
 
-ghost use Rattle.of_headers.specs.Numbers.{numbers_in};
-ghost use Rattle.of_headers.specs.Presence.{AreFields, AbsentAreZero};
+ghost use Rattle.of_headers.specs.{Numbers.numbers_in, Presence.AreFields, Presence.AbsentAreZero};
 
 use crate::numbers::Numbers;
 

@@ -2,10 +2,7 @@
 
 ghost use Rattle.std.specs.Prelude.{◌≡◌, ◌≤◌, ◌<◌, ◌+◌, ◌^◌, ℕ, List, length};
 ghost use Rattle.of_layers.specs.Reading.{layers_of};
-ghost use Rattle.of_headers.specs.FieldMap.{value, field_map};
-ghost use Rattle.of_headers.specs.Places.{layout_of};
-ghost use Rattle.of_headers.specs.Tags.{pushed, popped};
-ghost use Rattle.of_headers.specs.Known.{HasFields, HasPlaces, IsKnownOf};
+ghost use Rattle.of_headers.specs.{FieldMap.value, FieldMap.field_map, Places.layout_of, Tags.pushed, Tags.popped, Known.HasFields, Known.HasPlaces, Known.IsKnownOf};
 
 use crate::headers::Headers;
 use crate::key::FieldKey;

@@ -2,15 +2,12 @@
 
 ghost use Rattle.std.specs.Prelude.{◌≡◌, ℕ, ◌+◌, ◌*◌, ◌/◌, ◌%◌, ◌^◌, ◌<◌, ◌≤◌, ◌==◌, if◌then◌else◌, List, [], ◌∷◌, length, slice_index, slice_set, Some};
 ghost use Rattle.std.specs.Option.{option_or};
-ghost use Rattle.of_layers.specs.declared.field.Field.{Field as TheField};
-ghost use Rattle.of_layers.specs.declared.field.Field.TheVariants.{IpProto};
-ghost use Rattle.of_layers.specs.declared.transport.Transport.TheVariants.{Tcp, Udp, Icmpv4, Icmpv6};
-ghost use Rattle.of_layers.specs.Fields.{number_of};
 ghost use Rattle.of_layers.specs.Layers.{cells_in, addresses, outer_tag, ether_type, arp, ipv4, ipv6, items_of, size_of, named as item_named};
-ghost use Rattle.of_layers.specs.Looking.{look, locate_at};
 ghost use Rattle.of_layers.specs.Reading.{word, six, tag_numbers, arp_numbers, ipv4_numbers, ipv6_numbers, numbers_of};
-ghost use Rattle.of_headers.specs.FieldMap.{value};
-ghost use Rattle.of_headers.specs.Parts.{untagged, tagged};
+ghost use Rattle.of_layers.specs.{declared.field.Field.Field as TheField, declared.field.Field.TheVariants.IpProto};
+ghost use Rattle.of_layers.specs.declared.transport.Transport.TheVariants.{Tcp, Udp, Icmpv4, Icmpv6};
+ghost use Rattle.of_layers.specs.{Fields.number_of, Looking.look, Looking.locate_at};
+ghost use Rattle.of_headers.specs.{FieldMap.value, Parts.untagged, Parts.tagged};
 
 use crate::bytes::{double_at, six_at, sixteen_at, word_at};
 use crate::key::FieldKey;

@@ -1,10 +1,9 @@
 //! Where the layers of a frame begin.
 
 ghost use Rattle.std.specs.Prelude.{◌≡◌, ◌+◌, ◌*◌, ◌^◌, ◌≤◌, ◌<◌, ◌==◌, ◌&&◌, ℕ, length, drop, IsTrue};
-ghost use Rattle.of_layers.specs.Layers.{Layers};
 ghost use Rattle.of_layers.specs.Reading.{tag_count, is_tag_type, is_arp, is_ipv4, is_ipv6, ipv4_of, ipv6_of, body_of, layers_of};
-ghost use Rattle.of_headers.specs.Places.{network_of, layout_of};
-ghost use Rattle.of_headers.specs.Tags.{pushed, popped};
+ghost use Rattle.of_layers.specs.Layers.{Layers};
+ghost use Rattle.of_headers.specs.{Places.network_of, Places.layout_of, Tags.pushed, Tags.popped};
 
 use crate::bytes::{rest_from, word_at};
 use crate::chain::chain_in;

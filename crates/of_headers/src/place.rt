@@ -1,10 +1,7 @@
 //! Where a field is in a frame, from where its layers begin.
 
 ghost use Rattle.std.specs.Prelude.{◌≡◌, ℕ, ◌+◌, ◌*◌, ◌^◌, ◌<◌, ◌≤◌, List, length};
-ghost use Rattle.of_layers.specs.Fields.{number_of};
-ghost use Rattle.of_layers.specs.Layers.{Cell, cells, body_cells};
-ghost use Rattle.of_layers.specs.Looking.{locate_at, locate};
-ghost use Rattle.of_layers.specs.Reading.{body_of, layers_of};
+ghost use Rattle.of_layers.specs.{Fields.number_of, Layers.Cell, Layers.cells, Layers.body_cells, Looking.locate_at, Looking.locate, Reading.body_of, Reading.layers_of};
 ghost use Rattle.of_headers.specs.Places.{width, network_of, layout_of};
 
 use crate::layers::{

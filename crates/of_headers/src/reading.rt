@@ -4,12 +4,9 @@
 
 ghost use Rattle.std.specs.Prelude.{◌≡◌, ◌≤◌, [], ◌∷◌, ◌++◌, length, true};
 ghost use Rattle.std.specs.Option.{option_or};
-ghost use Rattle.of_layers.specs.declared.field.Field.{Field as TheField};
-ghost use Rattle.of_layers.specs.Layers.{cells_in, body_cells, ether_type};
-ghost use Rattle.of_layers.specs.Looking.{look};
 ghost use Rattle.of_layers.specs.Reading.{is_ipv4, ipv4_of, is_ipv6, ipv6_of, body_of, layers_of};
-ghost use Rattle.of_headers.specs.declared.layout.Network.TheVariants.{Ipv4 as InIpv4, Ipv6 as InIpv6};
-ghost use Rattle.of_headers.specs.FieldMap.{value, field_map};
+ghost use Rattle.of_layers.specs.{declared.field.Field.Field as TheField, Layers.cells_in, Layers.body_cells, Layers.ether_type, Looking.look};
+ghost use Rattle.of_headers.specs.{declared.layout.Network.TheVariants.Ipv4 as InIpv4, declared.layout.Network.TheVariants.Ipv6 as InIpv6, FieldMap.value, FieldMap.field_map};
 ghost use Rattle.of_headers.specs.Places.{network_of, layout_of};
 
 use crate::bytes::{rest_from, word_at};

@@ -1,8 +1,7 @@
 //! What IP packets carry (IANA, Protocol Numbers).
 
 ghost use Rattle.std.specs.Prelude.{◌≡◌};
-ghost use Rattle.of_layers.specs.Layers.{size_of};
-ghost use Rattle.of_layers.specs.Reading.{over_ipv4, over_ipv6, whole_in};
+ghost use Rattle.of_layers.specs.{Layers.size_of, Reading.over_ipv4, Reading.over_ipv6, Reading.whole_in};
 
 use of_layers::Transport;
 

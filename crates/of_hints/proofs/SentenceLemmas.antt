@@ -1,21 +1,15 @@
 -- Each error that a group or a flow of a text is refused with has a sentence.
 use Rattle.std.proofs.Common.{ℕ, ◌+◌, Bool, true, false, cond, List, [], ◌∷◌, ◌++◌, length, take, Option, Some, None, refl}
-use Rattle.std.specs.Prelude.{IsSome, IfSome}
-use Rattle.std.specs.List.{AllByRecursion, flat_map}
-use Rattle.std.specs.Option.{option_map_or}
-use Rattle.of_wire.specs.declared.code.Code.{Code}
-use Rattle.of_wire.specs.Refusals.{first_of}
+use Rattle.std.specs.{Prelude.IsSome, Prelude.IfSome, List.AllByRecursion, List.flat_map, Option.option_map_or}
+use Rattle.of_wire.specs.{declared.code.Code.Code, Refusals.first_of}
 use Rattle.of_oxm.specs.declared.match_field.MatchField.{MatchField}
-use Rattle.of_actions.specs.declared.action.Action.{Action}
-use Rattle.of_actions.specs.declared.action.Action.TheVariants as actions
-use Rattle.of_actions.specs.declared.instruction.Instruction.{Instruction}
 use Rattle.of_actions.specs.declared.instruction.Instruction.TheVariants.{Apply, Clear, Write, Metadata, Goto}
+use Rattle.of_actions.specs.{declared.action.Action.Action, declared.instruction.Instruction.Instruction}
+use Rattle.of_actions.specs.declared.action.Action.TheVariants as actions
 use Rattle.of_groups.specs.declared.group.Group.{Group}
 use Rattle.of_text.specs.First.{first_refusal, flows_for, refusals_behind, refused_from, refused_group}
-use Rattle.of_text.specs.Flows.{Flow}
-use Rattle.of_text.specs.Groups.{TextBucket, TextGroup}
 use Rattle.of_text.specs.Refusals.{text_action_refusals, all_there, buckets_refusals, text_field_refusals, flow_refusals, goto_refusals, group_refusals, list_refusals, match_refusals, naming_refusals, instruction_refusals, instructions_refusals, table_refusals}
-use Rattle.of_text.proofs.TextLemmas.{all_both}
+use Rattle.of_text.{specs.Flows.Flow, specs.Groups.TextBucket, specs.Groups.TextGroup, proofs.TextLemmas.all_both}
 use Rattle.of_hints.specs.Sentences.{sentence_of}
 
 abbrev IsSaid : Code → Type 0

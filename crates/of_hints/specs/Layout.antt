@@ -1,10 +1,8 @@
 -- What a hint says about the bytes of a line. What it says about words is only in its text.
 use Rattle.std.specs.Prelude.{◌≡◌, ◌<◌, ◌==◌, ℕ, true, List, [], ◌∷◌, length, nat_eq}
-use Rattle.std.specs.List.{list_any, starts_with}
-use Rattle.std.specs.Str.{IsUtf8}
-use Rattle.of_hints.specs.declared.layout.LayoutFault.{LayoutFault}
+use Rattle.std.specs.{List.list_any, List.starts_with, Str.IsUtf8}
 use Rattle.of_hints.specs.declared.layout.LayoutFault.TheVariants.{TooLong, ByteOrderMark, NotText, CarriageReturn, Tab, Space}
-use Rattle.of_hints.specs.declared.hint.Hint.{Hint}
+use Rattle.of_hints.specs.{declared.layout.LayoutFault.LayoutFault, declared.hint.Hint.Hint}
 use Rattle.of_hints.specs.declared.hint.Hint.TheVariants as hints
 
 abbrev pub IsLayoutFault : LayoutFault → List ℕ → Type 0

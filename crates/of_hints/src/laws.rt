@@ -1,8 +1,6 @@
 //! A law of the sentences.
 ghost use Rattle.std.specs.Prelude.{List, IfSome, IsSome};
-ghost use Rattle.of_text.specs.First.{first_refusal};
-ghost use Rattle.of_text.specs.Flows.{Flow};
-ghost use Rattle.of_text.specs.Groups.{TextGroup};
+ghost use Rattle.of_text.specs.{First.first_refusal, Flows.Flow, Groups.TextGroup};
 ghost use Rattle.of_hints.specs.Sentences.{sentence_of};
 
 /// Each error that a group or a flow of a flow text is refused with has a sentence.

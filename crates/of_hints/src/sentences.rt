@@ -1,6 +1,5 @@
 //! What an error of OpenFlow means for a line.
-ghost use Rattle.std.specs.Prelude.{◌≡◌, map};
-ghost use Rattle.std.specs.Option.{option_map};
+ghost use Rattle.std.specs.{Prelude.◌≡◌, Prelude.map, Option.option_map};
 ghost use Rattle.of_hints.specs.Sentences.{sentence_of, sentences_of};
 
 use of_wire::Code;

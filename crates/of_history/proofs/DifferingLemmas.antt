@@ -1,9 +1,7 @@
 -- Lines that a text has.
 use Rattle.std.proofs.Common.{◌≡◌, ℕ, ◌<◌, ◌||◌, Bool, true, false, List, [], length, refl, sym, ◌∙◌}
-use Rattle.std.specs.Prelude.{IsTrue}
-use Rattle.std.specs.Str.{bytes_eq}
-use Rattle.of_text.specs.Lines.{lines_of, before, behind}
-use Rattle.of_text.proofs.TextLemmas.{first_line}
+use Rattle.std.specs.{Prelude.IsTrue, Str.bytes_eq}
+use Rattle.of_text.{specs.Lines.lines_of, specs.Lines.before, specs.Lines.behind, proofs.TextLemmas.first_line}
 use Rattle.of_history.specs.Changes.{HasLinesOf, has_line}
 
 or_later : (b c : Bool) → IsTrue c → IsTrue (b || c)

@@ -1,10 +1,7 @@
 -- Entries, one after the other.
 use Rattle.std.proofs.Common.{◌≡◌, ℕ, List, [], ◌∷◌, ◌++◌, sym, ◌∙◌, append_assoc}
-use Rattle.std.proofs.lemmas.List.{append-nil}
-use Rattle.std.specs.List.{flat_map}
-use Rattle.of_table.specs.Table.{FlowEntry}
-use Rattle.of_table.specs.declared.entry.Entry.{Entry}
-use Rattle.of_table.specs.Entries.{entry_of, flows_of}
+use Rattle.std.{specs.List.flat_map, proofs.lemmas.List.append-nil}
+use Rattle.of_table.specs.{Table.FlowEntry, declared.entry.Entry.Entry, Entries.entry_of, Entries.flows_of}
 
 pub entry_more : (f : FlowEntry → List ℕ) (out new all : List ℕ) (e : Entry) (left others : List Entry) → left ≡ e ∷ others → new ≡ out ++ f (entry_of e) →
     out ++ flat_map f (flows_of left) ≡ all → new ++ flat_map f (flows_of others) ≡ all

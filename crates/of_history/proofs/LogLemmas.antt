@@ -1,12 +1,9 @@
 -- The lines of a log, one after the other.
 use Rattle.std.proofs.Common.{◌≡◌, ℕ, ◌+◌, ◌<◌, List, [], ◌++◌, length, Option, Some, None, refl, sym, ◌∙◌, ap, append_assoc}
 use Rattle.std.proofs.lemmas.List.{append-nil}
-use Rattle.of_text.specs.Lines.{before, behind, lines_of}
-use Rattle.of_text.proofs.TextLemmas.{first_line}
-use Rattle.of_switch.specs.declared.event.Event.{Event}
-use Rattle.of_switch.specs.State.{State}
-use Rattle.of_replay.specs.Rows.{row_of_line}
-use Rattle.of_replay.specs.RowTexts.{RowText, row_happened, told_from}
+use Rattle.of_text.{specs.Lines.before, specs.Lines.behind, specs.Lines.lines_of, proofs.TextLemmas.first_line}
+use Rattle.of_switch.specs.{declared.event.Event.Event, State.State}
+use Rattle.of_replay.specs.{Rows.row_of_line, RowTexts.RowText, RowTexts.row_happened, RowTexts.told_from}
 use Rattle.of_history.specs.Changes.{bad_from}
 
 -- ---- the first line of those that are left

@@ -1,11 +1,7 @@
 -- Lines of two texts.
 use Rattle.std.proofs.Common.{◌≡◌, ℕ, ◌<◌, Bool, true, false, List, [], ◌∷◌, ◌++◌, length, Result, Ok, Err, refl, sym, ap, ◌∙◌, append_assoc}
-use Rattle.std.proofs.lemmas.List.{append-nil}
-use Rattle.std.specs.Prelude.{OnOk}
-use Rattle.std.specs.List.{flat_map}
-use Rattle.std.specs.Str.{bytes_eq}
-use Rattle.of_text.specs.Lines.{lines_of, before, behind}
-use Rattle.of_text.proofs.TextLemmas.{first_line}
+use Rattle.std.{specs.Prelude.OnOk, specs.List.flat_map, specs.Str.bytes_eq, proofs.lemmas.List.append-nil}
+use Rattle.of_text.{specs.Lines.lines_of, specs.Lines.before, specs.Lines.behind, proofs.TextLemmas.first_line}
 use Rattle.of_history.specs.Changes.{kept_line, marked_lines, other_lines}
 
 -- ---- lines behind a mark

@@ -1,8 +1,7 @@
 -- Where two ways part.
 use Rattle.std.proofs.Common.{◌≡◌, ℕ, ◌<◌, Bool, true, false, List, [], length, refl, sym, ◌∙◌}
 use Rattle.std.specs.Str.{bytes_eq}
-use Rattle.of_text.specs.Lines.{lines_of, before, behind}
-use Rattle.of_text.proofs.TextLemmas.{first_line}
+use Rattle.of_text.{specs.Lines.lines_of, specs.Lines.before, specs.Lines.behind, proofs.TextLemmas.first_line}
 use Rattle.of_history.specs.Reasons.{is_lookup, parts_at_lookup}
 
 abbrev Parts : List ℕ → List ℕ → Bool

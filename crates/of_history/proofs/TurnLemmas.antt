@@ -1,26 +1,17 @@
 -- Turns, one after the other.
 use Rattle.std.proofs.Common.{◌≡◌, ℕ, ◌+◌, ◌<◌, suc, zero, Bool, true, false, cond, List, [], ◌∷◌, ◌++◌, length, Option, Some, None, Result, Ok, Err, refl, sym, ◌∙◌, ap, ◌⊎◌, inl, inr, arith, append_assoc}
-use Rattle.std.proofs.lemmas.List.{append-nil}
-use Rattle.std.proofs.lemmas.Slice.Eq.{bytes_eq-Decides}
-use Rattle.std.specs.Prelude.{OnOk}
-use Rattle.std.specs.Str.{bytes_eq}
+use Rattle.std.{specs.Prelude.OnOk, specs.Str.bytes_eq, proofs.lemmas.List.append-nil, proofs.lemmas.Slice.Eq.bytes_eq-Decides}
 use Rattle.of_datapath.specs.Datapath.{Forwarding}
-use Rattle.of_switch.specs.declared.event.Event.{Event}
 use Rattle.of_switch.specs.declared.event.Event.TheVariants.{Connect, Lost, Chunk, Frame, Moment, Ports}
-use Rattle.of_switch.specs.declared.switch_error.SwitchError.{SwitchError}
-use Rattle.of_switch.specs.State.{State}
 use Rattle.of_switch.specs.Steps.{Outcome, connected, fed, frame_in, gives, lost, moment_in, next_of, port_changed}
-use Rattle.of_switch.specs.Calls.{Call, connect_refusal, feed_refusal, port_refusal}
 use Rattle.of_switch.specs.Runs.{chunk_in, drain, drained, happened, then_more, unless_refusal}
-use Rattle.of_switch.proofs.Draining.{next_shorter}
-use Rattle.of_switch.specs.declared.port_change.PortChange.{PortChange}
-use Rattle.of_replay.specs.declared.rows.Row.{Row}
+use Rattle.of_switch.specs.{declared.event.Event.Event, declared.switch_error.SwitchError.SwitchError, State.State, Calls.Call, Calls.connect_refusal, Calls.feed_refusal, Calls.port_refusal}
+use Rattle.of_switch.{specs.declared.port_change.PortChange.PortChange, proofs.Draining.next_shorter}
+use Rattle.of_replay.specs.{declared.rows.Row.Row, Rows.with_bytes, RowTexts.row_happened}
 use Rattle.of_replay.specs.declared.rows.Row.TheVariants as rows
-use Rattle.of_replay.specs.Rows.{with_bytes}
-use Rattle.of_replay.specs.RowTexts.{row_happened}
 use Rattle.of_history.specs.Turns.{Turn, after_turns, all_message_turns, chunk_turns, first_handled, message_turns, row_turns, turn_and, turn_of}
-use Rattle.of_history.specs.Causes.{Cause, Message}
 use Rattle.of_history.specs.Changes.{ChangeText, after_rows, told_change, row_expiring, rows_told_last, told_last, turns_told}
+use Rattle.of_history.specs.Causes.{Cause, Message}
 
 -- ---- where turns lead
 

@@ -1,15 +1,11 @@
 -- The words of a way.
 use Rattle.std.proofs.Common.{◌≡◌, ◌++◌, ℕ, List, [], ◌∷◌, refl, sym, ◌∙◌, ap, map}
 use Rattle.std.specs.List.{flat_map}
-use Rattle.of_machine.specs.declared.data.Item.{Item}
-use Rattle.of_machine.specs.declared.data.Step.{Step}
-use Rattle.of_datapath.specs.Datapath.{Forwarding}
+use Rattle.of_machine.specs.{declared.data.Item.Item, declared.data.Step.Step}
+use Rattle.of_datapath.specs.{Datapath.Forwarding, DryRun.received_steps}
 use Rattle.of_text.specs.Lines.{ended}
 use Rattle.of_json.specs.LeavingWords.{side_words}
-use Rattle.of_history.specs.declared.way.FoundStep.{FoundStep}
-use Rattle.of_datapath.specs.DryRun.{received_steps}
-use Rattle.of_history.specs.Fates.{fate_line, fate_lines, received_fate, received_items}
-use Rattle.of_history.specs.Ways.{found_line, found_step, way_words}
+use Rattle.of_history.specs.{declared.way.FoundStep.FoundStep, Fates.fate_line, Fates.fate_lines, Fates.received_fate, Fates.received_items, Ways.found_line, Ways.found_step, Ways.way_words}
 
 found_lines : (f : Forwarding) (steps : List Step) → flat_map found_line (map (found_step f) steps) ≡ fate_lines f steps
 found_lines f [] = refl

@@ -1,7 +1,6 @@
 -- By whom, as the code has it: beside the message, or the lines about what expires.
 use Rattle.std.specs.Prelude.{ℕ, List}
-use Rattle.of_history.specs.declared.cause.By.{By}
-use Rattle.of_history.specs.declared.cause.By.TheVariants.{Message, Moment, Port, Row}
+use Rattle.of_history.specs.{declared.cause.By.By, declared.cause.By.TheVariants.Message, declared.cause.By.TheVariants.Moment, declared.cause.By.TheVariants.Port, declared.cause.By.TheVariants.Row}
 use Rattle.of_history.specs.Causes as seen
 
 abbrev pub by_of : By → List ℕ → seen.By

@@ -1,13 +1,9 @@
 -- CHANGES AS JSON LINES (RFC 8259): an object for each, in a line of its own.
 use Rattle.std.specs.Prelude.{ℕ, ◌==◌, if◌then◌else◌, length, List, [], ◌∷◌, ◌++◌, codes, decimal, Option, Some, None}
 use Rattle.of_text.specs.Lines.{lines_of}
-use Rattle.of_json.specs.Parts.{key, listed, number_member}
-use Rattle.of_json.specs.Strings.{array_member, line_string, string_member}
+use Rattle.of_json.specs.{Parts.key, Parts.listed, Parts.number_member, Strings.array_member, Strings.line_string, Strings.string_member}
 use Rattle.of_explain.specs.Requests.{request_notes}
-use Rattle.of_history.specs.declared.reason.Reason.{Reason}
-use Rattle.of_history.specs.Causes.{By, Message, Moment, Cause}
-use Rattle.of_history.specs.Reasons.{fate_reason_words}
-use Rattle.of_history.specs.Changes.{ChangeText}
+use Rattle.of_history.specs.{declared.reason.Reason.Reason, Causes.By, Causes.Message, Causes.Moment, Causes.Cause, Reasons.fate_reason_words, Changes.ChangeText}
 
 -- a further member: the lines of a text without so many bytes before each
 unfoldable pub lines_member : List ℕ → ℕ → List ℕ → List ℕ

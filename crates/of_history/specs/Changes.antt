@@ -1,21 +1,16 @@
 -- THE HISTORY OF A VIEW of a switch, which is a text of lines: for each turn after which the text is another one, who did it, and both texts.
 use Rattle.std.specs.Prelude.{ℕ, ◌+◌, List, [], ◌∷◌, ◌++◌, codes, decimal, max, Bool, Option, Some, None, IsTrue, if◌then◌else◌}
-use Rattle.std.specs.List.{flat_map, list_any}
-use Rattle.std.specs.Str.{bytes_eq}
+use Rattle.std.specs.{List.flat_map, List.list_any, Str.bytes_eq}
 use Rattle.of_text.specs.Lines.{ended, lines_of}
 use Rattle.of_datapath.specs.Datapath.{Forwarding}
-use Rattle.of_switch.specs.declared.event.Event.{Event}
+use Rattle.of_switch.specs.{declared.event.Event.Event, State.State}
 use Rattle.of_switch.specs.declared.event.Event.TheVariants as events
-use Rattle.of_switch.specs.State.{State}
-use Rattle.of_replay.specs.Rows.{row_of_line}
-use Rattle.of_replay.specs.RowTexts.{RowText, row_happened}
+use Rattle.of_replay.specs.{Rows.row_of_line, RowTexts.RowText, RowTexts.row_happened}
 use Rattle.of_values.specs.Filled.{filled}
 use Rattle.of_explain.specs.Requests.{request_notes}
 use Rattle.of_history.specs.Causes.{By, Message, Moment, Cause, by_row, cause_of_turn}
-use Rattle.of_history.specs.declared.reason.Reason.{Reason}
+use Rattle.of_history.specs.{declared.reason.Reason.Reason, Reasons.fate_reason_note, Reasons.fate_reason, Turns.Turn, Turns.row_turns}
 use Rattle.of_history.specs.declared.telling.TheConstants as words
-use Rattle.of_history.specs.Reasons.{fate_reason_note, fate_reason}
-use Rattle.of_history.specs.Turns.{Turn, row_turns}
 
 -- what is said of a change: by who made it, the reason, and both texts
 abbrev pub ChangeText : Type 0

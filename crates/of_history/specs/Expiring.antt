@@ -1,18 +1,11 @@
 -- ENTRIES WHOSE TIMEOUTS ARE OVER at a moment (OpenFlow 1.3.5, 5.5), each in a line: by which timeout, and since when that counts.
 use Rattle.std.specs.Prelude.{ℕ, nat_lt, List, [], ◌∷◌, ◌++◌, decimal, slice_get, Option, Some, None, if◌then◌else◌}
-use Rattle.std.specs.List.{flat_map}
-use Rattle.std.specs.Option.{option_map_or}
-use Rattle.of_wire.specs.declared.reasons.FlowRemovedReason.{FlowRemovedReason}
-use Rattle.of_wire.specs.declared.reasons.FlowRemovedReason.TheVariants.{HardTimeout}
-use Rattle.of_headers.specs.declared.headers.FrameFault.{FrameFault}
-use Rattle.of_headers.specs.Faults.{frame_fault}
-use Rattle.of_table.specs.Table.{FlowEntry}
-use Rattle.of_table.specs.Tables.{table_at}
-use Rattle.of_table.specs.Selecting.{timeout_reason}
-use Rattle.of_machine.specs.declared.data.Step.{Step}
-use Rattle.of_machine.specs.declared.data.Step.TheVariants.{Entry}
-use Rattle.of_datapath.specs.Datapath.{Forwarding}
-use Rattle.of_datapath.specs.DryRun.{received_steps}
+use Rattle.std.specs.{List.flat_map, Option.option_map_or}
+use Rattle.of_wire.specs.{declared.reasons.FlowRemovedReason.FlowRemovedReason, declared.reasons.FlowRemovedReason.TheVariants.HardTimeout}
+use Rattle.of_headers.specs.{declared.headers.FrameFault.FrameFault, Faults.frame_fault}
+use Rattle.of_table.specs.{Table.FlowEntry, Tables.table_at, Selecting.timeout_reason}
+use Rattle.of_machine.specs.{declared.data.Step.Step, declared.data.Step.TheVariants.Entry}
+use Rattle.of_datapath.specs.{Datapath.Forwarding, DryRun.received_steps}
 use Rattle.of_text.specs.Lines.{note}
 use Rattle.of_values.specs.Filled.{filled}
 use Rattle.of_trace.specs.Words.{found_words}

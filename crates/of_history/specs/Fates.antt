@@ -1,16 +1,10 @@
 -- THE FATE OF A FRAME that is received at a port (OpenFlow 1.3.5, 5.1): the steps of its run and what leaves, in words; or why it is not received.
 use Rattle.std.specs.Prelude.{ℕ, List, [], ◌∷◌, ◌++◌, codes, Option, Some, None, if◌then◌else◌}
 use Rattle.std.specs.List.{flat_map}
-use Rattle.of_headers.specs.declared.headers.FrameFault.{FrameFault}
-use Rattle.of_headers.specs.Faults.{frame_fault}
-use Rattle.of_ports.specs.declared.port.Port.{Port}
-use Rattle.of_ports.specs.Ports.{is_live, may_receive, port_at}
-use Rattle.of_machine.specs.declared.data.Item.{Item}
-use Rattle.of_machine.specs.declared.data.Step.{Step}
-use Rattle.of_machine.specs.Rows.{Lookup as LookUp, entering}
-use Rattle.of_machine.specs.Runs.{run_of}
-use Rattle.of_datapath.specs.Datapath.{Forwarding, world_of}
-use Rattle.of_datapath.specs.DryRun.{received_steps}
+use Rattle.of_headers.specs.{declared.headers.FrameFault.FrameFault, Faults.frame_fault}
+use Rattle.of_ports.specs.{declared.port.Port.Port, Ports.is_live, Ports.may_receive, Ports.port_at}
+use Rattle.of_machine.specs.{declared.data.Item.Item, declared.data.Step.Step, Rows.Lookup as LookUp, Rows.entering, Runs.run_of}
+use Rattle.of_datapath.specs.{Datapath.Forwarding, Datapath.world_of, DryRun.received_steps}
 use Rattle.of_text.specs.Lines.{ended}
 use Rattle.of_json.specs.LeavingWords.{side_words}
 use Rattle.of_history.specs.Ways.{line_with, winner_at}

@@ -1,19 +1,15 @@
 -- WHY THE FATE OF A FRAME CHANGED: by what the message or the row does, and by whether the ways part at a lookup.
 use Rattle.std.specs.Prelude.{ℕ, Bool, true, false, List, [], ◌∷◌, ◌++◌, codes, nat_eq, Option, Some, None, Result, Ok, Err, if◌then◌else◌}
-use Rattle.std.specs.List.{starts_with}
-use Rattle.std.specs.Str.{bytes_eq}
+use Rattle.std.specs.{List.starts_with, Str.bytes_eq}
 use Rattle.of_wire.specs.declared.code.Code.{Code}
-use Rattle.of_messages.specs.declared.message.Message.{Message}
-use Rattle.of_messages.specs.declared.message.Message.TheVariants as messages
-use Rattle.of_messages.specs.declared.message.FlowModCommand.{FlowModCommand}
+use Rattle.of_messages.specs.{declared.message.Message.Message, declared.message.FlowModCommand.FlowModCommand}
 use Rattle.of_messages.specs.declared.message.FlowModCommand.TheVariants.{Add, Modify, Delete}
-use Rattle.of_messages.specs.declared.group_mod.GroupMod.{GroupMod}
+use Rattle.of_messages.specs.{declared.group_mod.GroupMod.GroupMod, Messages.message_of}
+use Rattle.of_messages.specs.declared.message.Message.TheVariants as messages
 use Rattle.of_messages.specs.declared.group_mod.GroupMod.TheVariants as group
-use Rattle.of_messages.specs.Messages.{message_of}
 use Rattle.of_text.specs.Lines.{ended, lines_of}
-use Rattle.of_history.specs.declared.reason.Reason.{Reason}
 use Rattle.of_history.specs.declared.reason.Reason.TheVariants.{Added, Replaced, Modified, Deleted, Expired, WithGroup, GroupDeleted, Buckets, Port}
-use Rattle.of_history.specs.Causes.{By}
+use Rattle.of_history.specs.{declared.reason.Reason.Reason, Causes.By}
 use Rattle.of_history.specs.Causes as by
 
 -- the line of a lookup: `table 0, priority 1, in_port 2`, or `table 0: no entry matches`

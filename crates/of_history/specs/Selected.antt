@@ -1,24 +1,19 @@
 -- THE FLOW ENTRIES THAT ARE SELECTED, by table and then by age, each in a line that has all of it except its counters (OpenFlow 1.3.5, 5.2).
 use Rattle.std.specs.Prelude.{ℕ, ◌==◌, ◌&&◌, Bool, true, List, [], ◌∷◌, ◌++◌, codes, decimal, Option, Some, None, bit_and, if◌then◌else◌}
-use Rattle.std.specs.List.{flat_map}
-use Rattle.std.specs.Option.{option_map_or}
-use Rattle.of_oxm.specs.declared.match_field.MatchField.{MatchField}
-use Rattle.of_oxm.specs.Relations.{covers_match}
+use Rattle.std.specs.{List.flat_map, Option.option_map_or}
+use Rattle.of_oxm.specs.{declared.match_field.MatchField.MatchField, Relations.covers_match}
 use Rattle.of_actions.specs.declared.instruction.Instruction.{Instruction}
 use Rattle.of_actions.specs.declared.instruction.Instruction.TheVariants as instructions
-use Rattle.of_table.specs.Table.{FlowEntry, Table, flags_number}
-use Rattle.of_table.specs.Tables.{is_in}
-use Rattle.of_machine.specs.declared.data.Step.{Step}
+use Rattle.of_table.specs.{Table.FlowEntry, Table.Table, Table.flags_number, Tables.is_in}
 use Rattle.of_machine.specs.declared.data.Step.TheVariants.{Apply, Clear, Write, Metadata, Goto, Act}
+use Rattle.of_machine.specs.declared.data.Step.{Step}
 use Rattle.of_statistics.specs.Flows.{from_tables}
 use Rattle.of_datapath.specs.Datapath.{Forwarding}
 use Rattle.of_text.specs.Lines.{ended}
-use Rattle.of_values.specs.Filled.{filled}
-use Rattle.of_values.specs.Numbers.{hexadecimal}
+use Rattle.of_values.specs.{Filled.filled, Numbers.hexadecimal}
 use Rattle.of_trace.specs.Words.{found_words, words_line}
-use Rattle.of_history.specs.declared.entries.EntryFilter.{EntryFilter}
+use Rattle.of_history.specs.{declared.entries.EntryFilter.EntryFilter, Expiring.expiry_line}
 use Rattle.of_history.specs.declared.entries.TheConstants as line
-use Rattle.of_history.specs.Expiring.{expiry_line}
 
 -- the entry's match is at least as specific as these fields (6.4); its priority is that of the filter, if it has one; and the cookies agree in the bits of the mask
 abbrev pub is_selected : EntryFilter → List MatchField → FlowEntry → Bool

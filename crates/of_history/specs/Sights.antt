@@ -1,7 +1,6 @@
 -- WHAT A VIEW SHOWS: a text.
 use Rattle.std.specs.Prelude.{ℕ, List}
-use Rattle.of_history.specs.declared.sight.Sight.{Sight}
-use Rattle.of_history.specs.declared.sight.Sight.TheVariants.{OfWay, Plain}
+use Rattle.of_history.specs.{declared.sight.Sight.Sight, declared.sight.Sight.TheVariants.OfWay, declared.sight.Sight.TheVariants.Plain}
 
 abbrev pub sight_text : Sight → List ℕ
 sight_text (Plain text) = text.items

@@ -3,12 +3,8 @@
 use Rattle.std.specs.Prelude.{◌≡◌, ℕ, ◌+◌, max, zero, suc, Bool, true, false, List, [], ◌∷◌, length, take, Option, Some, None}
 use Rattle.of_session.specs.Stream.{length_of}
 use Rattle.of_datapath.specs.declared.effect.Effect.{Effect}
-use Rattle.of_switch.specs.declared.event.Event.{Event}
 use Rattle.of_switch.specs.declared.event.Event.TheVariants.{Connect, Lost, Chunk, Frame, Moment, Ports}
-use Rattle.of_switch.specs.declared.switch_error.SwitchError.{SwitchError}
-use Rattle.of_switch.specs.State.{State}
-use Rattle.of_switch.specs.Steps.{Outcome, fed, gives, next_of}
-use Rattle.of_switch.specs.Calls.{feed_refusal}
+use Rattle.of_switch.specs.{declared.event.Event.Event, declared.switch_error.SwitchError.SwitchError, State.State, Steps.Outcome, Steps.fed, Steps.gives, Steps.next_of, Calls.feed_refusal}
 use Rattle.of_switch.specs.Runs.{Report, Gives, IsRefused, happened}
 
 -- a message, or nothing where the row itself happens; and the switch after it

@@ -1,18 +1,14 @@
 -- THE WAY OF A FRAME that is received: the steps of its run, with the entries that they found, and what the run emits. Its words need no switch.
 use Rattle.std.specs.Prelude.{ℕ, List, [], ◌++◌, codes, Option, Some, None}
-use Rattle.std.specs.List.{flat_map}
-use Rattle.std.specs.Option.{option_map}
+use Rattle.std.specs.{List.flat_map, Option.option_map}
 use Rattle.of_table.specs.declared.flow.Flow.{Flow}
-use Rattle.of_machine.specs.declared.data.Item.{Item}
-use Rattle.of_machine.specs.declared.data.Step.{Step}
-use Rattle.of_machine.specs.declared.data.Step.TheVariants.{Act, Entry, Miss}
+use Rattle.of_machine.specs.{declared.data.Item.Item, declared.data.Step.Step, declared.data.Step.TheVariants.Act, declared.data.Step.TheVariants.Entry, declared.data.Step.TheVariants.Miss}
 use Rattle.of_datapath.specs.Datapath.{Forwarding}
 use Rattle.of_text.specs.Lines.{ended}
 use Rattle.of_values.specs.Entries.{entry_words}
 use Rattle.of_json.specs.LeavingWords.{side_words}
 use Rattle.of_trace.specs.Words.{action_line, flow_there, numbered_words, plain_line}
-use Rattle.of_history.specs.declared.way.FoundStep.{FoundStep}
-use Rattle.of_history.specs.declared.way.Winner.{Winner}
+use Rattle.of_history.specs.{declared.way.FoundStep.FoundStep, declared.way.Winner.Winner}
 
 -- ---- a step, with the priority and the match of the entry that it found
 

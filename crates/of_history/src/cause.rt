@@ -1,8 +1,7 @@
 //! Who changed a view of a switch.
 ghost use Rattle.std.specs.Prelude.{◌≡◌, ℕ, List};
 ghost use Rattle.of_replay.specs.Rows.{with_bytes};
-ghost use Rattle.of_history.specs.Causes.{by_row as caused_by};
-ghost use Rattle.of_history.specs.CauseViews.{by_of};
+ghost use Rattle.of_history.specs.{Causes.by_row as caused_by, CauseViews.by_of};
 
 use of_replay::Row;
 use std::marker::Model;
@@ -32,8 +31,7 @@ pub struct Cause<'a> {
 }
 
 impl<'a> Model for Cause<'a> {
-    ghost use Rattle.of_history.specs.Causes.{Cause as TheCause};
-    ghost use Rattle.of_history.specs.CauseViews.{by_of as by_whom};
+    ghost use Rattle.of_history.specs.{Causes.Cause as TheCause, CauseViews.by_of as by_whom};
 
     ghost Value = { TheCause };
 

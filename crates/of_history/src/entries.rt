@@ -1,10 +1,8 @@
 //! Selected flow entries.
 ghost use Rattle.std.specs.Prelude.{◌≡◌, ◌<◌, ◌++◌, IfOk, IsTrue, None, OnOk, Some, false};
 ghost use Rattle.std.specs.List.{flat_map, list_all};
-ghost use Rattle.of_actions.specs.InstructionLists.{is_served_body};
-ghost use Rattle.of_actions.specs.Supported.{is_supported};
-ghost use Rattle.of_table.specs.Entries.{entry_of, flows_of};
-ghost use Rattle.of_table.specs.Tables.{table_at};
+ghost use Rattle.of_actions.specs.{InstructionLists.is_served_body, Supported.is_supported};
+ghost use Rattle.of_table.specs.{Entries.entry_of, Entries.flows_of, Tables.table_at};
 ghost use Rattle.of_machine.specs.declared.data.Step.TheVariants.{Act};
 ghost use Rattle.of_text.specs.Lines.{ended};
 ghost use Rattle.of_tracing.specs.Encoded.{is_encoded};

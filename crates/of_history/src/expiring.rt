@@ -1,7 +1,6 @@
 //! Flow entries that expire.
 ghost use Rattle.std.specs.Prelude.{◌≡◌, ◌++◌, OnOk};
-ghost use Rattle.of_table.specs.Entries.{entry_of};
-ghost use Rattle.of_table.specs.Selecting.{is_over as over, timeout_reason};
+ghost use Rattle.of_table.specs.{Entries.entry_of, Selecting.is_over as over, Selecting.timeout_reason};
 ghost use Rattle.of_history.specs.Expiring.{expiry_line, expiry_words, step_expiry, timeout_words};
 
 use crate::fate::push_winner_words;

@@ -1,15 +1,12 @@
 //! The fate of a frame.
 ghost use Rattle.std.specs.Prelude.{◌≡◌, ◌≤◌, ◌++◌, [], IfNone, IfOk, IfSome, IsTrue, OnOk, Some, false, length, true};
-ghost use Rattle.std.specs.Option.{option_copied, option_map};
+ghost use Rattle.std.specs.{Option.option_copied, Option.option_map, List.flat_map};
 ghost use Rattle.of_datapath.specs.DryRun.{received_steps};
 ghost use Rattle.of_tracing.specs.Encoded.{are_encoded, is_encoded};
 ghost use Rattle.of_trace.specs.Words.{found_words};
 ghost use Rattle.of_json.specs.LeavingWords.{side_words};
-ghost use Rattle.std.specs.List.{flat_map};
-ghost use Rattle.of_history.specs.Expiring.{step_expiry, way_expiring};
 ghost use Rattle.of_history.specs.Fates.{deaf_port, fate, fate_line, fate_lines, received_fate, received_items};
-ghost use Rattle.of_history.specs.Sights.{sight_text};
-ghost use Rattle.of_history.specs.Ways.{entry_said, winner_words};
+ghost use Rattle.of_history.specs.{Expiring.step_expiry, Expiring.way_expiring, Sights.sight_text, Ways.entry_said, Ways.winner_words};
 
 use crate::expiring::push_step_expiry;
 use crate::sight::{Sight, is_of_way};

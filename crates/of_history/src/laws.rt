@@ -1,11 +1,9 @@
 //! What is known from a history.
 ghost use Rattle.std.specs.Prelude.{◌≡◌, ℕ, List, Option};
 ghost use Rattle.of_datapath.specs.Datapath.{Forwarding};
-ghost use Rattle.of_switch.specs.declared.event.Event.{Event};
-ghost use Rattle.of_switch.specs.State.{State};
+ghost use Rattle.of_switch.specs.{declared.event.Event.Event, State.State};
 ghost use Rattle.of_replay.specs.RowTexts.{row_happened};
-ghost use Rattle.of_history.specs.Turns.{Turn, after_turns, row_turns};
-ghost use Rattle.of_history.specs.Changes.{after_rows, rows_told_last, told_last};
+ghost use Rattle.of_history.specs.{Turns.Turn, Turns.after_turns, Turns.row_turns, Changes.after_rows, Changes.rows_told_last, Changes.told_last};
 
 /// At each place between two turns, and between two rows, the view is the text that was told last before it, or the first one where none was.
 ///

@@ -1,6 +1,5 @@
 //! Two texts, line by line.
-ghost use Rattle.std.specs.Prelude.{◌≡◌, ◌++◌, OnOk};
-ghost use Rattle.std.specs.List.{flat_map};
+ghost use Rattle.std.specs.{Prelude.◌≡◌, Prelude.◌++◌, Prelude.OnOk, List.flat_map};
 ghost use Rattle.of_text.specs.Lines.{ended, lines_of};
 ghost use Rattle.of_history.specs.Changes.{come_line, gone_line, marked_lines, other_lines};
 

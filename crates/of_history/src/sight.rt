@@ -1,7 +1,6 @@
 //! What a view shows.
 ghost use Rattle.std.specs.Prelude.{◌≡◌, true, map};
-ghost use Rattle.of_history.specs.Sights.{sight_text};
-ghost use Rattle.of_history.specs.Ways.{found_step, way_words};
+ghost use Rattle.of_history.specs.{Sights.sight_text, Ways.found_step, Ways.way_words};
 
 use crate::way::{WaySight, are_found, are_same_items};
 use of_classifier::Lookup;

@@ -1,17 +1,12 @@
 //! The history of a view of a switch.
 ghost use Rattle.std.specs.Prelude.{◌≡◌, ◌++◌, [], IfErr, IfOk, OnOk};
 ghost use Rattle.of_text.specs.Lines.{lines_of};
-ghost use Rattle.of_switch.specs.declared.switch_error.SwitchError.TheVariants.{NoMemory};
-ghost use Rattle.of_switch.specs.State.{start};
-ghost use Rattle.of_switch.specs.declared.event.Event.{Event};
-ghost use Rattle.of_switch.specs.declared.event.Event.TheVariants.{Chunk};
+ghost use Rattle.of_switch.specs.{declared.switch_error.SwitchError.TheVariants.NoMemory, State.start, declared.event.Event.Event, declared.event.Event.TheVariants.Chunk};
 ghost use Rattle.of_switch.specs.Runs.{drained, happened};
-ghost use Rattle.of_replay.specs.Rows.{with_bytes};
-ghost use Rattle.of_replay.specs.RowTexts.{row_happened, told};
+ghost use Rattle.of_replay.specs.{Rows.with_bytes, RowTexts.row_happened, RowTexts.told};
 ghost use Rattle.of_history.specs.Turns.{HandlesFirst, all_message_turns, event_turns, first_handled, turn_of};
-ghost use Rattle.of_history.specs.Causes.{Row as ARow, by_row as caused_by};
-ghost use Rattle.of_history.specs.Sights.{sight_text};
 ghost use Rattle.of_history.specs.Changes.{bad_from, told_change, history_of, row_cause, row_expiring, turns_told};
+ghost use Rattle.of_history.specs.{Causes.Row as ARow, Causes.by_row as caused_by, Sights.sight_text};
 
 use crate::cause::{By, Cause, by_row};
 use crate::reason::reason_of;

@@ -1,19 +1,12 @@
 -- Comments behind the flows of a text change nothing of what it encodes.
 use Rattle.std.proofs.Common.{◌≡◌, ℕ, ◌<◌, length, Bool, true, false, cond, List, [], ◌∷◌, ◌++◌, refl, sym, ◌∙◌, ap, append_assoc}
-use Rattle.std.specs.Prelude.{◌==◌, reverse, if◌then◌else◌}
-use Rattle.std.specs.List.{AllByRecursion, flat_map}
-use Rattle.std.specs.Global.{Vec}
+use Rattle.std.specs.{Prelude.◌==◌, Prelude.reverse, Prelude.if◌then◌else◌, List.AllByRecursion, List.flat_map, Global.Vec}
 use Rattle.std.proofs.lemmas.List.{append-nil, reverse-append, reverse-reverse}
 use Rattle.of_lines.specs.Lines.{before, behind, ended, lines_of, prepended}
-use Rattle.of_text.specs.Texts.{counts, lines_kept}
-use Rattle.of_text.specs.Configs.{Configuration, EncodeConfig}
-use Rattle.of_text.proofs.TextLemmas.{first_line}
+use Rattle.of_text.{specs.Texts.counts, specs.Texts.lines_kept, specs.Configs.Configuration, specs.Configs.EncodeConfig, proofs.TextLemmas.first_line}
 use Rattle.of_import.specs.Counters.{begins_flow, counter_notes, later_notes, next_note, note_in, noted_line, notes_after, notes_in, tables, with_counters, with_notes}
-use Rattle.of_import.specs.CounterViews.{notes_to_come, view_notes}
-use Rattle.of_import.specs.Notes.{counter_note, counter_words}
-use Rattle.of_import.specs.ParsedLines.{FlowAt}
-use Rattle.of_import.proofs.NoteLemmas.{Passes, none_pass, unless_passes}
-use Rattle.of_import.proofs.ParsedLinesLemmas.{all_both}
+use Rattle.of_import.specs.{CounterViews.notes_to_come, CounterViews.view_notes, Notes.counter_note, Notes.counter_words, ParsedLines.FlowAt}
+use Rattle.of_import.proofs.{NoteLemmas.Passes, NoteLemmas.none_pass, NoteLemmas.unless_passes, ParsedLinesLemmas.all_both}
 
 -- ---- a line has no end within
 

@@ -1,22 +1,10 @@
 -- Flows that replace each other have the same digest.
 use Rattle.std.proofs.Common.{◌≡◌, ℕ, eqb, Bool, true, false, cond, List, [], ◌∷◌, ◌++◌, Option, Some, None, refl, sym, ap, ◌∙◌}
-use Rattle.std.specs.Prelude.{◌||◌, ◌&&◌, is_some, slice_get}
-use Rattle.std.specs.HashMap.{HashMap, get}
-use Rattle.std.specs.List.{list_any}
-use Rattle.std.specs.Map.{lookup}
-use Rattle.std.specs.Option.{option_map_or}
-use Rattle.std.proofs.lemmas.Bool.{eqb-true, eq-eqb}
-use Rattle.std.proofs.lemmas.List.{map-append}
-use Rattle.std.proofs.lemmas.List.Folds.{list_any-append}
-use Rattle.std.proofs.lemmas.Map.Keys.{any_passes_from_place}
+use Rattle.std.specs.{Prelude.◌||◌, Prelude.◌&&◌, Prelude.is_some, Prelude.slice_get, HashMap.HashMap, HashMap.get, List.list_any, Map.lookup, Option.option_map_or}
+use Rattle.std.proofs.{lemmas.Bool.eqb-true, lemmas.Bool.eq-eqb, lemmas.List.map-append, lemmas.List.Folds.list_any-append, lemmas.Map.Keys.any_passes_from_place}
 use Rattle.of_oxm.specs.SameMatch.{is_same_match}
-use Rattle.of_text.specs.Flows.{Flow}
-use Rattle.of_text.specs.Digests.{flow_digest}
-use Rattle.of_text.specs.Views.{view}
-use Rattle.of_text.proofs.DigestLemmas.{digest_same, equal_fields}
-use Rattle.of_import.specs.declared.parsed_lines.FlowLine.{FlowLine}
-use Rattle.of_import.specs.Digests.{digests_of, HasDigests, PutsDigest}
-use Rattle.of_import.specs.Kept.{replaces}
+use Rattle.of_text.{specs.Flows.Flow, specs.Digests.flow_digest, specs.Views.view, proofs.DigestLemmas.digest_same, proofs.DigestLemmas.equal_fields}
+use Rattle.of_import.specs.{declared.parsed_lines.FlowLine.FlowLine, Digests.digests_of, Digests.HasDigests, Digests.PutsDigest, Kept.replaces}
 use Rattle.of_ovs_lines.proofs.SoundLemmas.{and_parts}
 
 same_digest : (a b : Flow) → replaces a b ≡ true → flow_digest a ≡ flow_digest b

@@ -2,26 +2,15 @@
 use Rattle.std.proofs.Common.{◌≡◌, ℕ, ◌+◌, List, ◌++◌, length, Option, Some, Result, Ok, Err, ap, ◌∙◌, subst}
 use Rattle.std.specs.Prelude.{map, IfOk, IfErr}
 use Rattle.of_wire.specs.declared.code.Code.{Code}
-use Rattle.of_text.specs.declared.assembling.FillError.{FillError}
+use Rattle.of_text.specs.{declared.assembling.FillError.FillError, Flows.Flow, Groups.TextGroup, Configs.Configuration, First.RefusedWithout}
 use Rattle.of_text.specs.declared.assembling.FillError.TheVariants as fills
-use Rattle.of_text.specs.Flows.{Flow}
-use Rattle.of_text.specs.Groups.{TextGroup}
-use Rattle.of_text.specs.Configs.{Configuration}
-use Rattle.of_text.specs.First.{RefusedWithout}
-use Rattle.of_import.specs.declared.parsed_lines.FlowLine.{FlowLine}
-use Rattle.of_import.specs.declared.parsed_lines.GroupLine.{GroupLine}
-use Rattle.of_import.specs.ParsedLinesViews.{view_flow_line, view_group_line}
-use Rattle.of_import.specs.declared.kept.LineRefusal.{LineRefusal}
-use Rattle.of_ovs_lines.specs.declared.mode.Mode.{Mode}
-use Rattle.of_import.specs.declared.kept.KeptLines.{KeptLines}
-use Rattle.of_import.specs.declared.parsed_lines.LineFaults.{LineFaults}
-use Rattle.of_import.specs.declared.import.ImportError.{ImportError}
-use Rattle.of_import.specs.declared.import.ImportError.TheVariants.{NoMemory, Faults, Refused, TooMany}
 use Rattle.of_import.specs.Imports.{HasBegun, IsConfigOf, IsFilled, IsImport, IsImportText, IsTextOf, NoImport, RefusedAt, RefusedOf, kept_in, notes_for, parsed}
-use Rattle.of_import.specs.Kept.{Kept, flows_in, groups_in}
-use Rattle.of_import.specs.KeptViews.{view_kept, view_refusal}
-use Rattle.of_import.specs.ParsedLines.{FlowAt}
+use Rattle.of_import.specs.{declared.parsed_lines.FlowLine.FlowLine, declared.parsed_lines.GroupLine.GroupLine, ParsedLinesViews.view_flow_line, ParsedLinesViews.view_group_line}
+use Rattle.of_import.specs.{declared.kept.LineRefusal.LineRefusal, declared.kept.KeptLines.KeptLines, declared.parsed_lines.LineFaults.LineFaults, declared.import.ImportError.ImportError}
+use Rattle.of_import.specs.declared.import.ImportError.TheVariants.{NoMemory, Faults, Refused, TooMany}
+use Rattle.of_import.specs.{Kept.Kept, Kept.flows_in, Kept.groups_in, KeptViews.view_kept, KeptViews.view_refusal, ParsedLines.FlowAt}
 use Rattle.of_import.proofs.RowLemmas.{parsed_group_lines, parsed_flow_lines}
+use Rattle.of_ovs_lines.specs.declared.mode.Mode.{Mode}
 
 pub refused_first : (first : Option (ℕ × Code)) (e : FillError) (place : ℕ) (code : Code) → e ≡ fills.Refused place code → RefusedWithout first e → first ≡ Some (place, code)
 refused_first first e place code is h = subst (RefusedWithout first) is h

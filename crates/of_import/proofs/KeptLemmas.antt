@@ -1,29 +1,17 @@
 -- What is kept.
 use Rattle.std.proofs.Common.{◌≡◌, ℕ, zero, suc, ◌+◌, eqb, not, Bool, true, false, cond, List, [], ◌∷◌, ◌++◌, length, Option, Some, None, refl, sym, ap, subst, append_assoc, ◌∙◌, ◌<◌, vec_len, arith}
 use Rattle.std.specs.Prelude.{◌≤◌, map, filter, filter_map, reverse, is_some, slice_index_or}
-use Rattle.std.specs.List.{AllByRecursion, fold, list_any}
-use Rattle.std.specs.Option.{option_map, option_map_or}
-use Rattle.std.specs.Global.{Vec}
-use Rattle.std.proofs.lemmas.Bool.{eq-eqb}
 use Rattle.std.proofs.lemmas.List.{append-nil, length-map, map-append, reverse-append, reverse-reverse}
-use Rattle.of_wire.specs.declared.code.Code.{Code}
-use Rattle.of_wire.specs.Refusals.{first_of}
+use Rattle.std.{specs.List.AllByRecursion, specs.List.fold, specs.List.list_any, specs.Option.option_map, specs.Option.option_map_or, specs.Global.Vec, proofs.lemmas.Bool.eq-eqb}
+use Rattle.of_wire.specs.{declared.code.Code.Code, Refusals.first_of}
 use Rattle.of_action_set.proofs.Ranked.{length-filter_le, rising-filter}
 use Rattle.of_groups.specs.declared.group.Group.{Group}
-use Rattle.of_text.specs.declared.group.GroupText.{GroupText}
-use Rattle.of_text.specs.First.{first_refusal, refused_from, refused_group, refusals_behind}
-use Rattle.of_text.specs.Flows.{Flow}
-use Rattle.of_text.specs.Groups.{TextGroup}
-use Rattle.of_text.specs.Refusals.{all_there, group_refusals, naming_refusals}
-use Rattle.of_text.specs.Views.{view, view_group, view_groups}
+use Rattle.of_text.specs.{declared.group.GroupText.GroupText, First.first_refusal, First.refused_from, First.refused_group, First.refusals_behind, Flows.Flow, Groups.TextGroup}
+use Rattle.of_text.specs.{Refusals.all_there, Refusals.group_refusals, Refusals.naming_refusals, Views.view, Views.view_group, Views.view_groups}
 use Rattle.of_text.proofs.ConfigLemmas.{groups_stand}
-use Rattle.of_import.specs.declared.parsed_lines.FlowLine.{FlowLine}
-use Rattle.of_import.specs.declared.parsed_lines.GroupLine.{GroupLine}
-use Rattle.of_import.specs.declared.kept.LineRefusal.{LineRefusal}
 use Rattle.of_import.specs.Kept.{KeptGroups, accepted, after_refusal, groups_in, id_at, kept_groups, group_line_at, refusal_alone, refused_flows, replaces, with_older, without_group, youngest}
-use Rattle.of_import.specs.KeptViews.{view_refusal}
-use Rattle.of_import.specs.ParsedLines.{FlowAt}
 use Rattle.of_import.specs.ParsedLinesViews.{AreSoundGroups, FlowIsSound, GroupFits, id_of, view_flow_line, view_group_line}
+use Rattle.of_import.specs.{declared.parsed_lines.FlowLine.FlowLine, declared.parsed_lines.GroupLine.GroupLine, declared.kept.LineRefusal.LineRefusal, KeptViews.view_refusal, ParsedLines.FlowAt}
 use Rattle.of_import.proofs.ParsedLinesLemmas.{all_filtered, all_more, any_mapped, filter_mapped}
 use Rattle.of_ovs_lines.proofs.SoundLemmas.{all_back, all_front}
 

@@ -1,18 +1,12 @@
 -- Comments before a text change nothing of what it encodes.
 use Rattle.std.proofs.Common.{◌≡◌, ℕ, ◌+◌, ◌<◌, length, take, get_or, Bool, true, false, List, [], ◌∷◌, ◌++◌, refl, sym, ◌∙◌, ap, append_assoc, arith}
 use Rattle.std.specs.Prelude.{◌==◌, ◌&&◌, nat_le, map, if◌then◌else◌}
-use Rattle.std.specs.List.{flat_map}
-use Rattle.std.proofs.lemmas.Bool.Decides.{nat_tests}
-use Rattle.std.proofs.lemmas.List.{append-nil, map_more}
-use Rattle.std.proofs.lemmas.List.Concat.{flat_map-append}
-use Rattle.of_text.specs.Lines.{lines_of}
-use Rattle.of_text.specs.Texts.{lines_kept}
-use Rattle.of_text.specs.Configs.{Configuration, EncodeConfig}
+use Rattle.std.{specs.List.flat_map, proofs.lemmas.Bool.Decides.nat_tests, proofs.lemmas.List.append-nil, proofs.lemmas.List.map_more, proofs.lemmas.List.Concat.flat_map-append}
+use Rattle.of_text.specs.{Lines.lines_of, Texts.lines_kept, Configs.Configuration, Configs.EncodeConfig}
 use Rattle.of_lines.specs.Lines.{prepended}
-use Rattle.of_import.specs.Kept.{Kept}
-use Rattle.of_values.specs.Origins.{printable}
 use Rattle.of_import.specs.Notes.{left_out_action_words, comment, fault_words, mark_notes, notes_of, part_words, refusal_words, resubmit_note, resubmit_words, renumbered_table_words}
-use Rattle.of_import.specs.ParsedLines.{FlowAt}
+use Rattle.of_import.specs.{Kept.Kept, ParsedLines.FlowAt}
+use Rattle.of_values.specs.Origins.{printable}
 use Rattle.of_ovs_lines.specs.PartialFlows.{Refusal}
 
 -- whatever follows these bytes, it has the same lines that count

@@ -1,8 +1,8 @@
 -- New numbers of tables, one after the other.
 use Rattle.std.proofs.Common.{◌≡◌, ℕ, suc, ◌+◌, ◌-◌, ◌<◌, List, [], ◌∷◌, ◌++◌, refl, ap, sym, ◌∙◌, append_assoc, arith}
-use Rattle.of_import.specs.ParsedLines.{FlowAt}
-use Rattle.of_import.specs.TableNumbers.{TableNumbers, count_from, following_number, move_of, moves_from, table_numbers_from, table_numbers_of}
 use Rattle.std.proofs.lemmas.List.{append-nil}
+use Rattle.of_import.specs.TableNumbers.{TableNumbers, count_from, following_number, move_of, moves_from, table_numbers_from, table_numbers_of}
+use Rattle.of_import.specs.ParsedLines.{FlowAt}
 
 abbrev of_parts : List ℕ → List (ℕ × ℕ) → ℕ → TableNumbers
 of_parts ns ms n = record { numbers = ns; moves = ms; count = n }

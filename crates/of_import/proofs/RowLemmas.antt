@@ -1,26 +1,18 @@
 -- What was read may stand in a flow text.
 use Rattle.std.proofs.Common.{◌≡◌, ℕ, true, List, [], ◌∷◌, ◌++◌, Some, refl, ap, ◌∙◌}
-use Rattle.std.specs.Prelude.{map, nat_lt}
-use Rattle.std.specs.List.{AllByRecursion, flat_map, list_all}
-use Rattle.of_actions.specs.declared.action.Action.{Action}
-use Rattle.of_actions.specs.Rising.{is_ascending}
+use Rattle.std.specs.{Prelude.map, Prelude.nat_lt, List.AllByRecursion, List.flat_map, List.list_all}
+use Rattle.of_actions.specs.{declared.action.Action.Action, Rising.is_ascending}
 use Rattle.of_lines.specs.declared.order.Place.{Place}
 use Rattle.of_lines.specs.declared.order.Place.TheVariants.{Start, InGroup, InBucket, InFlow}
 use Rattle.of_lines.specs.declared.row.Row.{Row}
 use Rattle.of_lines.specs.declared.row.Row.TheVariants as rows
-use Rattle.of_text.specs.Flows.{Flow, text_rows}
 use Rattle.of_text.specs.Groups.{TextBucket, TextGroup, bucket_rows, group_rows, rows_of_groups}
-use Rattle.of_text.specs.Order.{start_place, following, following_all}
-use Rattle.of_text.specs.Rows.{Fits}
-use Rattle.of_text.specs.Texts.{AreRows}
-use Rattle.of_text.specs.Views.{view, view_group, view_groups, view_flows}
-use Rattle.of_text.proofs.TextLemmas.{standing_both, all_both}
+use Rattle.of_text.specs.{Flows.Flow, Flows.text_rows, Order.start_place, Order.following, Order.following_all, Rows.Fits, Texts.AreRows}
+use Rattle.of_text.{specs.Views.view, specs.Views.view_group, specs.Views.view_groups, specs.Views.view_flows, proofs.TextLemmas.standing_both, proofs.TextLemmas.all_both}
 use Rattle.of_text.proofs.ConfigLemmas.{IsWhole, rows_from}
-use Rattle.of_import.specs.declared.parsed_lines.FlowLine.{FlowLine}
-use Rattle.of_import.specs.declared.parsed_lines.GroupLine.{GroupLine}
 use Rattle.of_import.specs.ParsedLinesViews.{id_of, view_group_line, view_flow_line, AreSoundGroups, FlowIsSound}
-use Rattle.of_ovs_lines.specs.Sound.{IsSoundFlow}
-use Rattle.of_ovs_lines.proofs.SoundLemmas.{and_parts}
+use Rattle.of_import.specs.{declared.parsed_lines.FlowLine.FlowLine, declared.parsed_lines.GroupLine.GroupLine}
+use Rattle.of_ovs_lines.{specs.Sound.IsSoundFlow, proofs.SoundLemmas.and_parts}
 
 -- a place in the group of that number
 abbrev pub IsIn : ℕ → Place → Type 0

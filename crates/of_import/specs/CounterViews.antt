@@ -1,6 +1,5 @@
 -- Comments apart from their layout in memory, the last one first there.
-use Rattle.std.specs.Prelude.{ℕ, List, map, reverse}
-use Rattle.std.specs.Global.{Vec}
+use Rattle.std.specs.{Prelude.ℕ, Prelude.List, Prelude.map, Prelude.reverse, Global.Vec}
 
 abbrev pub view_notes : List (Vec ℕ) → List (List ℕ)
 view_notes notes = map (λ n. n.items) notes

@@ -1,10 +1,8 @@
 -- COMMENTS BEHIND THE FLOWS of a text: what a dump counted of each.
 use Rattle.std.specs.Prelude.{ℕ, ◌==◌, Bool, List, [], ◌∷◌, ◌++◌, codes, if◌then◌else◌}
-use Rattle.std.specs.List.{flat_map}
-use Rattle.std.specs.Str.{bytes_eq}
+use Rattle.std.specs.{List.flat_map, Str.bytes_eq}
 use Rattle.of_lines.specs.Lines.{before, ended, lines_of}
-use Rattle.of_import.specs.Notes.{counter_note}
-use Rattle.of_import.specs.ParsedLines.{FlowAt}
+use Rattle.of_import.specs.{Notes.counter_note, ParsedLines.FlowAt}
 
 -- one for each flow of a table, in the order of the lines; it may be empty
 abbrev pub note_in : ℕ → FlowAt → List (List ℕ)

@@ -1,9 +1,7 @@
 -- THE DIGESTS OF FLOWS, each with a place: if no later flow has the digest of a flow, none has to be compared.
 use Rattle.std.specs.Prelude.{◌≡◌, ℕ, cond, List, map, nat_eq, Some, is_some}
-use Rattle.std.specs.HashMap.{HashMap, get}
-use Rattle.std.specs.List.{list_any}
-use Rattle.of_text.specs.Digests.{flow_digest}
-use Rattle.of_text.specs.Views.{view}
+use Rattle.std.specs.{HashMap.HashMap, HashMap.get, List.list_any}
+use Rattle.of_text.specs.{Digests.flow_digest, Views.view}
 use Rattle.of_import.specs.declared.parsed_lines.FlowLine.{FlowLine}
 
 abbrev pub digests_of : List FlowLine → List ℕ

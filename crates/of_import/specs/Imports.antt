@@ -1,23 +1,13 @@
 -- THE TEXT OF A TABLE OF OPEN VSWITCH: the configuration that its lines say, without those that are left out, after comments about these.
 use Rattle.std.specs.Prelude.{◌≡◌, ◌<◌, ◌≤◌, ◌+◌, ◌++◌, ℕ, false, List, [], filter, map, length, slice_index_or, None, Some, if◌then◌else◌}
 use Rattle.std.specs.List.{AllByRecursion}
-use Rattle.of_text.specs.Flows.{Flow as TextFlow}
-use Rattle.of_text.specs.Configs.{Configuration, EncodeConfig, tables_of_flows, config_text}
-use Rattle.of_text.specs.Groups.{TextGroup}
-use Rattle.of_text.specs.Lines.{lines_of}
-use Rattle.of_text.specs.First.{first_refusal}
+use Rattle.of_text.specs.{Flows.Flow as TextFlow, Configs.Configuration, Configs.EncodeConfig, Configs.tables_of_flows, Configs.config_text, Groups.TextGroup, Lines.lines_of, First.first_refusal}
 use Rattle.of_ovs_lines.specs.declared.mode.Mode.{Mode}
-use Rattle.of_import.specs.declared.parsed_lines.LineFaults.{LineFaults}
-use Rattle.of_import.specs.declared.kept.KeptLines.{KeptLines}
-use Rattle.of_import.specs.declared.kept.LineRefusal.{LineRefusal}
-use Rattle.of_import.specs.declared.import.ImportError.{ImportError}
-use Rattle.of_import.specs.declared.import.ImportError.TheVariants.{NoMemory, Faults, Refused, TooMany}
-use Rattle.of_import.specs.ParsedLinesViews.{AreSoundGroups, FlowIsSound, view_faults}
-use Rattle.of_import.specs.ParsedLines.{FlowAt, ParsedLines, parsed_lines_of}
 use Rattle.of_import.specs.Kept.{Kept, flows_in, groups_in, kept_of_lines, line_of_item}
-use Rattle.of_import.specs.KeptViews.{view_kept, view_refusal}
-use Rattle.of_import.specs.TableNumbers.{TableNumbers, table_numbers_of, same_numbers}
-use Rattle.of_import.specs.Counters.{with_counters}
+use Rattle.of_import.specs.{declared.parsed_lines.LineFaults.LineFaults, declared.kept.KeptLines.KeptLines, declared.kept.LineRefusal.LineRefusal, declared.import.ImportError.ImportError}
+use Rattle.of_import.specs.declared.import.ImportError.TheVariants.{NoMemory, Faults, Refused, TooMany}
+use Rattle.of_import.specs.{ParsedLinesViews.AreSoundGroups, ParsedLinesViews.FlowIsSound, ParsedLinesViews.view_faults, ParsedLines.FlowAt, ParsedLines.ParsedLines, ParsedLines.parsed_lines_of}
+use Rattle.of_import.specs.{KeptViews.view_kept, KeptViews.view_refusal, TableNumbers.TableNumbers, TableNumbers.table_numbers_of, TableNumbers.same_numbers, Counters.with_counters}
 use Rattle.of_import.specs.Notes.{is_changed, notes_of}
 
 -- the configuration has these groups and flows, each flow in its table after those before it, and none is refused

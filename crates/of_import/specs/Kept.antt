@@ -1,12 +1,8 @@
 -- WHICH GROUPS AND FLOWS OF A TABLE ARE KEPT: those that a switch accepts, and of flows that replace each other the last one.
 use Rattle.std.specs.Prelude.{ℕ, suc, zero, ◌==◌, ◌&&◌, not, Bool, List, [], ◌∷◌, ◌++◌, map, filter, filter_map, length, reverse, slice_index_or, Option, Some, None, is_none, if◌then◌else◌}
-use Rattle.std.specs.List.{fold, list_any}
-use Rattle.std.specs.Option.{option_map}
+use Rattle.std.specs.{List.fold, List.list_any, Option.option_map}
 use Rattle.of_wire.specs.declared.code.Code.{Code}
-use Rattle.of_text.specs.Flows.{Flow as TextFlow}
-use Rattle.of_text.specs.Groups.{TextGroup}
-use Rattle.of_text.specs.First.{first_refusal}
-use Rattle.of_text.specs.Refusals.{has_same_match}
+use Rattle.of_text.specs.{Flows.Flow as TextFlow, Groups.TextGroup, First.first_refusal, Refusals.has_same_match}
 use Rattle.of_import.specs.ParsedLines.{FlowAt}
 
 abbrev pub groups_in : List (ℕ × TextGroup) → List TextGroup

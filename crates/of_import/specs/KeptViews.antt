@@ -1,14 +1,8 @@
 -- What is kept, apart from its layout in memory.
-use Rattle.std.specs.Prelude.{ℕ, Bool, map}
-use Rattle.std.specs.Global.{Vec}
+use Rattle.std.specs.{Prelude.ℕ, Prelude.Bool, Prelude.map, Global.Vec}
 use Rattle.of_wire.specs.declared.code.Code.{Code}
-use Rattle.of_import.specs.declared.parsed_lines.FlowLine.{FlowLine}
-use Rattle.of_import.specs.declared.parsed_lines.GroupLine.{GroupLine}
-use Rattle.of_import.specs.declared.kept.LineRefusal.{LineRefusal}
-use Rattle.of_import.specs.declared.kept.KeptLines.{KeptLines}
-use Rattle.of_import.specs.ParsedLinesViews.{view_flow_line, view_group_line}
-use Rattle.of_import.specs.Kept.{Kept, KeptGroups}
-use Rattle.of_import.specs.Notes.{is_changed}
+use Rattle.of_import.specs.{declared.parsed_lines.FlowLine.FlowLine, declared.parsed_lines.GroupLine.GroupLine, declared.kept.LineRefusal.LineRefusal, declared.kept.KeptLines.KeptLines}
+use Rattle.of_import.specs.{ParsedLinesViews.view_flow_line, ParsedLinesViews.view_group_line, Kept.Kept, Kept.KeptGroups, Notes.is_changed}
 
 abbrev pub view_refusal : LineRefusal → ℕ × Code
 view_refusal r = (r.line, r.code)

@@ -4,8 +4,7 @@ use Rattle.std.specs.List.{flat_map}
 use Rattle.of_wire.specs.declared.code.Code.{Code}
 use Rattle.of_values.specs.Origins.{printable}
 use Rattle.of_ovs_lines.specs.PartialFlows.{Refusal}
-use Rattle.of_import.specs.ParsedLines.{FlowAt}
-use Rattle.of_import.specs.Kept.{Kept}
+use Rattle.of_import.specs.{ParsedLines.FlowAt, Kept.Kept}
 
 abbrev pub comment : List ℕ → List ℕ
 comment words = codes "# " ++ map printable words ++ 10 ∷ []

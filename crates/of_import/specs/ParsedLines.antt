@@ -1,12 +1,10 @@
 -- WHAT LINES SAY, one after the other: groups by number, flows in the order of the lines, and the lines that are refused.
 use Rattle.std.specs.Prelude.{ℕ, ◌+◌, ◌==◌, nat_lt, List, [], ◌∷◌, ◌++◌, codes, filter, if◌then◌else◌}
 use Rattle.std.specs.List.{list_any}
-use Rattle.of_text.specs.Flows.{Flow as TextFlow}
-use Rattle.of_text.specs.Groups.{TextGroup}
+use Rattle.of_text.specs.{Flows.Flow as TextFlow, Groups.TextGroup}
 use Rattle.of_ovs_words.specs.declared.why.Why.TheVariants.{Again}
-use Rattle.of_ovs_lines.specs.declared.mode.Mode.{Mode}
-use Rattle.of_ovs_lines.specs.PartialFlows.{Refusal}
 use Rattle.of_ovs_lines.specs.LineContents.{LineContent, Marks, Nothing, Group, Flow, Refused, parsed_line}
+use Rattle.of_ovs_lines.specs.{declared.mode.Mode.Mode, PartialFlows.Refusal}
 
 -- a flow with its line, counted from 1
 pub record FlowAt : Type 0 where

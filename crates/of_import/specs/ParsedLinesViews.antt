@@ -2,18 +2,10 @@
 use Rattle.std.specs.Prelude.{◌≡◌, ℕ, true, map, List}
 use Rattle.std.specs.List.{AllByRecursion}
 use Rattle.of_actions.specs.Rising.{is_ascending}
-use Rattle.of_text.specs.Groups.{TextGroup, group_rows}
-use Rattle.of_text.specs.Rows.{Fits}
-use Rattle.of_text.specs.Views.{view, view_group}
-use Rattle.of_import.specs.declared.parsed_lines.GroupLine.{GroupLine}
-use Rattle.of_import.specs.declared.parsed_lines.FlowLine.{FlowLine}
-use Rattle.of_import.specs.declared.parsed_lines.LineFaults.{LineFaults}
-use Rattle.of_import.specs.declared.parsed_lines.ParsedLines.{ParsedLines as Declared}
-use Rattle.of_ovs_lines.specs.PartialFlows.{Refusal}
-use Rattle.of_ovs_lines.specs.PartialFlowViews.{view_word_fault}
-use Rattle.of_ovs_lines.specs.LineContentViews.{view_marks}
-use Rattle.of_ovs_lines.specs.Sound.{IsSoundFlow}
-use Rattle.of_import.specs.ParsedLines.{FlowAt, ParsedLines}
+use Rattle.of_text.specs.{Groups.TextGroup, Groups.group_rows, Rows.Fits, Views.view, Views.view_group}
+use Rattle.of_import.specs.{declared.parsed_lines.GroupLine.GroupLine, declared.parsed_lines.FlowLine.FlowLine, declared.parsed_lines.LineFaults.LineFaults}
+use Rattle.of_import.specs.{declared.parsed_lines.ParsedLines.ParsedLines as Declared, ParsedLines.FlowAt, ParsedLines.ParsedLines}
+use Rattle.of_ovs_lines.specs.{PartialFlows.Refusal, PartialFlowViews.view_word_fault, LineContentViews.view_marks, Sound.IsSoundFlow}
 
 abbrev pub view_group_line : GroupLine → ℕ × TextGroup
 view_group_line g = (g.line, view_group g.group)

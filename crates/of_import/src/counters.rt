@@ -3,8 +3,7 @@ ghost use Rattle.std.specs.Prelude.{◌≡◌, ◌++◌, map, IfOk, OnOk};
 ghost use Rattle.std.specs.List.{flat_map};
 ghost use Rattle.of_lines.specs.Lines.{ended, lines_of};
 ghost use Rattle.of_import.specs.Counters.{begins_flow as begins_flow_so, counter_notes as counter_notes_of, later_notes, next_note, note_in, noted_line, notes_after, notes_in, with_notes};
-ghost use Rattle.of_import.specs.CounterViews.{notes_to_come, view_notes};
-ghost use Rattle.of_import.specs.ParsedLinesViews.{view_flow_line};
+ghost use Rattle.of_import.specs.{CounterViews.notes_to_come, CounterViews.view_notes, ParsedLinesViews.view_flow_line};
 
 use crate::notes::counter_note;
 use crate::parsed_lines::FlowLine;

@@ -1,18 +1,10 @@
 //! Tables of Open vSwitch as configurations.
 ghost use Rattle.std.specs.Prelude.{◌≡◌, ◌<◌, ◌+◌, ◌++◌, [], false, Some, None, map, length, IfOk, IfErr, OnOk};
 ghost use Rattle.std.specs.List.{AllByRecursion};
-ghost use Rattle.of_text.specs.Configs.{EncodeConfig, config_text};
-ghost use Rattle.of_text.specs.Flows.{text_rows};
-ghost use Rattle.of_text.specs.Lines.{lines_of};
-ghost use Rattle.of_text.specs.Texts.{AreRows};
-ghost use Rattle.of_text.specs.Views.{view_flows, view_groups};
+ghost use Rattle.of_text.specs.{Configs.EncodeConfig, Configs.config_text, Flows.text_rows, Lines.lines_of, Texts.AreRows, Views.view_flows, Views.view_groups};
 ghost use Rattle.of_import.specs.Imports.{FaultsOf, HasBegun, IsConfigOf, IsFilled, IsImport, IsImportConfig, IsImportText, IsTextOf, NoImport, RefusedAt, RefusedOf, kept_in, numbers_for as numbers_for_lines};
-ghost use Rattle.of_import.specs.Counters.{with_notes};
-ghost use Rattle.of_import.specs.CounterViews.{view_notes};
-ghost use Rattle.of_import.specs.KeptViews.{view_kept};
-ghost use Rattle.of_import.specs.ParsedLines.{parsed_lines_of};
 ghost use Rattle.of_import.specs.ParsedLinesViews.{AreSoundGroups, FlowIsSound, view_faults, view_flow_line, view_group_line};
-ghost use Rattle.of_import.specs.TableNumbersViews.{view_numbers};
+ghost use Rattle.of_import.specs.{Counters.with_notes, CounterViews.view_notes, KeptViews.view_kept, ParsedLines.parsed_lines_of, TableNumbersViews.view_numbers};
 ghost use Rattle.of_import.specs.declared.import.ImportError.TheVariants.{NoMemory};
 
 use crate::copies::{copy_flow, copy_group};

@@ -1,17 +1,10 @@
 //! Which groups and flows of a table are kept.
 ghost use Rattle.std.specs.Prelude.{◌≡◌, ◌++◌, ◌∷◌, false, map, length, is_some, nat_eq, slice_get, slice_index_or, [], None, IfOk, OnOk};
-ghost use Rattle.std.specs.HashMap.{get};
-ghost use Rattle.std.specs.List.{AllByRecursion, list_any};
+ghost use Rattle.std.specs.{HashMap.get, List.AllByRecursion, List.list_any, Option.option_map_or};
 ghost use Rattle.of_oxm.specs.SameMatch.{is_same_match};
-ghost use Rattle.std.specs.Option.{option_map_or};
-ghost use Rattle.of_text.specs.First.{first_refusal};
-ghost use Rattle.of_text.specs.Flows.{text_rows};
-ghost use Rattle.of_text.specs.Texts.{AreRows};
-ghost use Rattle.of_text.specs.Views.{view, view_flows, view_group, view_groups};
-ghost use Rattle.of_text.specs.Digests.{flow_digest};
-ghost use Rattle.of_import.specs.Digests.{digests_of, HasDigests, PutsDigest};
+ghost use Rattle.of_text.specs.{First.first_refusal, Flows.text_rows, Texts.AreRows, Views.view, Views.view_flows, Views.view_group, Views.view_groups, Digests.flow_digest};
 ghost use Rattle.of_import.specs.Kept.{accepted, after_refusal, groups_in, kept_groups, kept_of_lines, refused_flows as refused_of, replaces as replaces_flow, with_older, youngest as youngest_of};
-ghost use Rattle.of_import.specs.KeptViews.{view_kept, view_kept_groups, view_refusal};
+ghost use Rattle.of_import.specs.{Digests.digests_of, Digests.HasDigests, Digests.PutsDigest, KeptViews.view_kept, KeptViews.view_kept_groups, KeptViews.view_refusal};
 ghost use Rattle.of_import.specs.ParsedLinesViews.{AreSoundGroups, FlowIsSound, view_flow_line, view_group_line};
 
 use crate::copies::copy_group;

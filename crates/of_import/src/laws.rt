@@ -1,11 +1,7 @@
 //! A law of the text that import writes.
 ghost use Rattle.std.specs.Prelude.{◌++◌, ℕ, List};
-ghost use Rattle.of_text.specs.Configs.{Configuration, EncodeConfig};
-ghost use Rattle.of_text.specs.Lines.{lines_of};
-ghost use Rattle.of_import.specs.Counters.{with_counters};
-ghost use Rattle.of_import.specs.Kept.{Kept};
-ghost use Rattle.of_import.specs.Notes.{notes_of};
-ghost use Rattle.of_import.specs.ParsedLines.{FlowAt};
+ghost use Rattle.of_text.specs.{Configs.Configuration, Configs.EncodeConfig, Lines.lines_of};
+ghost use Rattle.of_import.specs.{Counters.with_counters, Kept.Kept, Notes.notes_of, ParsedLines.FlowAt};
 ghost use Rattle.of_ovs_lines.specs.PartialFlows.{Refusal};
 
 /// The comments before a text and behind its flows change nothing of what the text encodes: with them it is read back as the same configuration.

@@ -1,9 +1,8 @@
 //! Comments about a text.
 ghost use Rattle.std.specs.Prelude.{◌≡◌, ◌++◌, ◌∷◌, filter, length, map, codes, IfOk, OnOk};
 ghost use Rattle.std.specs.List.{flat_map};
-ghost use Rattle.of_import.specs.KeptViews.{loses_action, view_kept, view_refusal};
 ghost use Rattle.of_import.specs.Notes.{left_out_action_words, comment, counter_note as counter_note_of, fault_words, is_changed as is_changed_line, mark_notes, notes_of, part_note, part_words, refusal_words, resubmit_note, renumbered_table_words, word_after_space};
-ghost use Rattle.of_import.specs.ParsedLinesViews.{view_faults, view_flow_line};
+ghost use Rattle.of_import.specs.{KeptViews.loses_action, KeptViews.view_kept, KeptViews.view_refusal, ParsedLinesViews.view_faults, ParsedLinesViews.view_flow_line};
 ghost use Rattle.of_ovs_lines.specs.PartialFlowViews.{view_word_fault};
 
 use crate::kept::{KeptLines, LineRefusal};

@@ -1,11 +1,9 @@
 //! New numbers of tables.
 ghost use Rattle.std.specs.Prelude.{◌≡◌, ◌++◌, ◌∷◌, [], map, IfOk, OnOk};
 ghost use Rattle.std.specs.List.{list_any};
-ghost use Rattle.of_text.specs.Flows.{goes_to};
-ghost use Rattle.of_text.specs.Views.{view, view_instruction};
-ghost use Rattle.of_import.specs.ParsedLinesViews.{view_flow_line};
+ghost use Rattle.of_text.specs.{Flows.goes_to, Views.view, Views.view_instruction};
 ghost use Rattle.of_import.specs.TableNumbers.{following_number, move_of, concerns_table as names_table, table_numbers_of, occurs as occurs_in, same_numbers};
-ghost use Rattle.of_import.specs.TableNumbersViews.{view_numbers};
+ghost use Rattle.of_import.specs.{ParsedLinesViews.view_flow_line, TableNumbersViews.view_numbers};
 
 use crate::parsed_lines::FlowLine;
 use of_text::{FlowText, InstructionText};

@@ -1,12 +1,8 @@
 -- Keywords as they lie in memory.
 use Rattle.std.proofs.Common.{◌≡◌, ℕ, Bool, true, false, List, [], ◌∷◌, ◌++◌, refl, sym, ap, ◌∙◌}
-use Rattle.std.specs.Prelude.{◌||◌}
-use Rattle.std.specs.List.{list_any}
-use Rattle.std.specs.Str.{bytes_eq}
-use Rattle.std.specs.Global.{Vec}
+use Rattle.std.specs.{Prelude.◌||◌, List.list_any, Str.bytes_eq, Global.Vec}
 use Rattle.of_ovs_lines.specs.declared.word_fault.WordFault.{WordFault}
-use Rattle.of_import_report.specs.Keywords.{keyword_of_fault, with_keyword}
-use Rattle.of_import_report.specs.Views.{view_names}
+use Rattle.of_import_report.specs.{Keywords.keyword_of_fault, Keywords.with_keyword, Views.view_names}
 
 any_name : (p : List ℕ → Bool) (names : List (Vec ℕ)) → list_any (λ name. p name.items) names ≡ list_any p (view_names names)
 any_name p [] = refl

@@ -1,10 +1,7 @@
 -- WHAT `import --json` ANSWERS ABOUT A TABLE of Open vSwitch: the document on its import, or on why there is none.
 use Rattle.std.specs.Prelude.{◌≡◌, ◌⊎◌, ℕ, false, List, Option, Some, None}
 use Rattle.of_ovs_lines.specs.declared.mode.Mode.{Mode}
-use Rattle.of_import.specs.declared.parsed_lines.LineFaults.{LineFaults}
-use Rattle.of_import.specs.declared.kept.KeptLines.{KeptLines}
-use Rattle.of_import.specs.declared.import.ImportError.{ImportError}
-use Rattle.of_import.specs.Imports.{IsImport, NoImport}
+use Rattle.of_import.specs.{declared.parsed_lines.LineFaults.LineFaults, declared.kept.KeptLines.KeptLines, declared.import.ImportError.ImportError, Imports.IsImport, Imports.NoImport}
 use Rattle.of_import_report.specs.Json.{import_json, lines_left_out, is_memory, no_import_json}
 
 -- of an import, and how many of its lines are left out or lose an action

@@ -5,17 +5,11 @@ use Rattle.of_text.specs.Lines.{lines_of}
 use Rattle.of_values.specs.Origins.{view_words}
 use Rattle.of_json.specs.Parts.{document_head, key, listed, match_object, number_member, text_member, truth_member}
 use Rattle.of_json.specs.Strings.{array_member, counters_member, string, string_member, string_of}
-use Rattle.of_ovs_lines.specs.declared.word_fault.WordFault.{WordFault}
-use Rattle.of_import.specs.declared.parsed_lines.LineFaults.{LineFaults}
-use Rattle.of_import.specs.declared.parsed_lines.FlowLine.{FlowLine}
-use Rattle.of_import.specs.declared.parsed_lines.GroupLine.{GroupLine}
-use Rattle.of_ovs_lines.specs.declared.line.FlowMarks.{FlowMarks}
-use Rattle.of_import.specs.declared.kept.KeptLines.{KeptLines}
-use Rattle.of_import.specs.declared.kept.LineRefusal.{LineRefusal}
-use Rattle.of_import.specs.declared.import.ImportError.{ImportError}
+use Rattle.of_ovs_lines.specs.{declared.word_fault.WordFault.WordFault, declared.line.FlowMarks.FlowMarks}
+use Rattle.of_import.specs.{declared.parsed_lines.LineFaults.LineFaults, declared.parsed_lines.FlowLine.FlowLine, declared.parsed_lines.GroupLine.GroupLine, declared.kept.KeptLines.KeptLines}
+use Rattle.of_import.specs.{declared.kept.LineRefusal.LineRefusal, declared.import.ImportError.ImportError}
 use Rattle.of_import.specs.declared.import.ImportError.TheVariants.{NoMemory, Faults, Refused, TooMany}
-use Rattle.of_import_report.specs.Help.{help_of, word_reason}
-use Rattle.of_import_report.specs.Keywords.{keywords_in, lines_with}
+use Rattle.of_import_report.specs.{Help.help_of, Help.word_reason, Keywords.keywords_in, Keywords.lines_with}
 
 -- the first member of an object
 unfoldable pub import_line_member : ℕ → List ℕ

@@ -1,7 +1,6 @@
 -- WHICH KEYWORDS ARE REFUSED, and in how many lines.
 use Rattle.std.specs.Prelude.{ℕ, Bool, List, [], ◌∷◌, ◌++◌, filter, length, if◌then◌else◌}
-use Rattle.std.specs.List.{fold, list_any}
-use Rattle.std.specs.Str.{bytes_eq}
+use Rattle.std.specs.{List.fold, List.list_any, Str.bytes_eq}
 use Rattle.of_ovs_words.specs.Words.{word_name}
 use Rattle.of_import.specs.declared.parsed_lines.LineFaults.{LineFaults}
 use Rattle.of_ovs_lines.specs.declared.word_fault.WordFault.{WordFault}

@@ -1,6 +1,5 @@
 -- Lists in memory as lists.
-use Rattle.std.specs.Prelude.{ℕ, List, map}
-use Rattle.std.specs.Global.{Vec}
+use Rattle.std.specs.{Prelude.ℕ, Prelude.List, Prelude.map, Global.Vec}
 
 abbrev pub view_names : List (Vec ℕ) → List (List ℕ)
 view_names names = map (λ name. name.items) names

@@ -2,8 +2,8 @@
 ghost use Rattle.std.specs.Prelude.{◌≡◌, Some, None, false, IfOk, IfErr};
 ghost use Rattle.of_text.specs.Lines.{lines_of};
 ghost use Rattle.of_import.specs.declared.import.ImportError.TheVariants.{NoMemory};
-ghost use Rattle.of_import_report.specs.Answers.{IsAnswer};
 ghost use Rattle.of_import_report.specs.Json.{import_json, is_memory, lines_left_out as left_out_of, no_import_json, refused_json};
+ghost use Rattle.of_import_report.specs.Answers.{IsAnswer};
 
 use crate::document::{import_document, left_out, refused_document};
 use of_import::{Import, ImportError, LineFaults, LineRefusal, import_tables};

@@ -1,8 +1,7 @@
 //! The documents.
 ghost use Rattle.std.specs.Prelude.{◌≡◌, ◌++◌, codes, IfOk, OnOk};
 ghost use Rattle.of_text.specs.Lines.{lines_of};
-ghost use Rattle.of_json.specs.Parts.{listed};
-ghost use Rattle.of_json.specs.Strings.{array_member, string};
+ghost use Rattle.of_json.specs.{Parts.listed, Strings.array_member, Strings.string};
 ghost use Rattle.of_import_report.specs.Json.{count_member, import_head_members, import_json, lines_left_out as left_out_of, move_object, refused_json};
 
 use crate::items::{push_item_members, push_move_object};

@@ -1,7 +1,5 @@
 //! Which keywords are refused, and in how many lines.
-ghost use Rattle.std.specs.Prelude.{◌≡◌, map, IfOk, OnOk};
-ghost use Rattle.std.specs.List.{fold, list_any};
-ghost use Rattle.std.specs.Str.{bytes_eq};
+ghost use Rattle.std.specs.{Prelude.◌≡◌, Prelude.map, Prelude.IfOk, Prelude.OnOk, List.fold, List.list_any, Str.bytes_eq};
 ghost use Rattle.of_import_report.specs.Keywords.{has_keyword, keyword_of_fault as keyword_of, keywords_in, lines_with, with_keyword, keywords_with_line};
 ghost use Rattle.of_import_report.specs.Views.{view_names};
 

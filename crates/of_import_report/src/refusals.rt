@@ -1,12 +1,9 @@
 //! Lines that are refused, as JSON.
-ghost use Rattle.std.specs.Prelude.{◌≡◌, ◌++◌, codes, OnOk};
-ghost use Rattle.std.specs.Option.{option_map};
-ghost use Rattle.of_json.specs.Parts.{listed};
-ghost use Rattle.of_json.specs.Strings.{array_member};
+ghost use Rattle.std.specs.{Prelude.◌≡◌, Prelude.◌++◌, Prelude.codes, Prelude.OnOk, Option.option_map};
+ghost use Rattle.of_json.specs.{Parts.listed, Strings.array_member};
 ghost use Rattle.of_wire.specs.CodeNames.{error_name};
 ghost use Rattle.of_import_report.specs.Json.{error_member, fault_object, help_member, keyword_object, import_line_member, refusal_object, refused_members, word_object};
-ghost use Rattle.of_import_report.specs.Keywords.{keywords_in};
-ghost use Rattle.of_import_report.specs.Views.{view_names};
+ghost use Rattle.of_import_report.specs.{Keywords.keywords_in, Views.view_names};
 
 use crate::help::{help_of, reason_of};
 use crate::keywords::{count_lines_with, keywords};

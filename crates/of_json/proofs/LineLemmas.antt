@@ -1,10 +1,7 @@
 -- The lines of a text as strings.
 use Rattle.std.proofs.Common.{◌≡◌, ℕ, ◌<◌, List, [], ◌∷◌, ◌++◌, length, Result, Ok, Err, sym, ap, ◌∙◌, append_assoc}
-use Rattle.std.proofs.lemmas.List.{append-nil}
-use Rattle.std.specs.Prelude.{OnOk}
-use Rattle.std.specs.List.{flat_map}
-use Rattle.of_text.specs.Lines.{lines_of, before, behind}
-use Rattle.of_text.proofs.TextLemmas.{first_line}
+use Rattle.std.{specs.Prelude.OnOk, specs.List.flat_map, proofs.lemmas.List.append-nil}
+use Rattle.of_text.{specs.Lines.lines_of, specs.Lines.before, specs.Lines.behind, proofs.TextLemmas.first_line}
 use Rattle.of_json.specs.Parts.{listed}
 
 abbrev further : (List ℕ → List ℕ) → List ℕ → List ℕ

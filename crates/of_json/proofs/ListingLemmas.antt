@@ -1,8 +1,6 @@
 -- Items with commas between them.
 use Rattle.std.proofs.Common.{◌≡◌, ℕ, ◌+◌, ◌<◌, ◌≤◌, List, [], ◌∷◌, ◌++◌, length, drop, get_or, refl, sym, ap, ◌∙◌, append_assoc, drop_of_length-le}
-use Rattle.std.proofs.lemmas.List.{append-nil, drop_more}
-use Rattle.std.specs.Global.{Vec}
-use Rattle.std.specs.List.{flat_map}
+use Rattle.std.{specs.Global.Vec, specs.List.flat_map, proofs.lemmas.List.append-nil, proofs.lemmas.List.drop_more}
 use Rattle.of_values.specs.Origins.{view_words}
 use Rattle.of_json.specs.Parts.{listed}
 

@@ -2,14 +2,10 @@
 -- and 7.2.3.7).
 use Rattle.std.specs.Prelude.{ℕ, ◌==◌, ◌&&◌, nat_le, nat_lt, Bool, true, false, not, List, [], ◌∷◌, ◌++◌, length, Option, Some, None, if◌then◌else◌}
 use Rattle.std.specs.List.{flat_map}
-use Rattle.of_layers.specs.declared.field.Field.{Field}
-use Rattle.of_layers.specs.Fields.{all_fields}
-use Rattle.of_layers.specs.Reading.{layers_of}
+use Rattle.of_layers.specs.{declared.field.Field.Field, Fields.all_fields, Reading.layers_of}
 use Rattle.of_headers.specs.FieldMap.{field_map}
 use Rattle.of_rewrite.specs.TimeToLive.{ttl_of}
-use Rattle.of_json.specs.declared.altered.Change.{Change}
-use Rattle.of_json.specs.declared.altered.Property.{Property}
-use Rattle.of_json.specs.declared.altered.Property.TheVariants.{InField, TimeToLive}
+use Rattle.of_json.specs.{declared.altered.Change.Change, declared.altered.Property.Property, declared.altered.Property.TheVariants.InField, declared.altered.Property.TheVariants.TimeToLive}
 
 -- a value, where a frame may have none
 abbrev pub is_other : Option ℕ → Option ℕ → Bool

@@ -1,11 +1,7 @@
 -- WHAT CHANGED IN WHAT LEAVES A SWITCH, AS JSON (RFC 8259): for each item an array of the changes in its frame.
 use Rattle.std.specs.Prelude.{ℕ, List, ◌∷◌, ◌++◌, [], codes, Option, Some, None}
 use Rattle.of_machine.specs.declared.data.Item.{Item}
-use Rattle.of_json.specs.Parts.{key, listed, quoted}
-use Rattle.of_json.specs.Strings.{array_member}
-use Rattle.of_json.specs.declared.altered.Change.{Change}
-use Rattle.of_json.specs.declared.altered.Property.{Property}
-use Rattle.of_json.specs.Changes.{changes}
+use Rattle.of_json.specs.{Parts.key, Parts.listed, Parts.quoted, Strings.array_member, declared.altered.Change.Change, declared.altered.Property.Property, Changes.changes}
 use Rattle.of_json.specs.ChangesInWords.{item_frame, property_name, property_value}
 
 -- null if the frame does not have it

@@ -3,14 +3,9 @@ use Rattle.std.specs.Prelude.{ℕ, ◌+◌, Bool, false, List, [], ◌∷◌, �
 use Rattle.std.specs.Str.{bytes_eq}
 use Rattle.of_layers.specs.Fields.{name_of}
 use Rattle.of_values.specs.Values.{value_words}
-use Rattle.of_machine.specs.declared.data.Item.{Item}
-use Rattle.of_machine.specs.declared.data.Item.TheVariants.{PacketIn, Sent}
-use Rattle.of_json.specs.LeavingWords.{side_words}
-use Rattle.of_json.specs.Parts.{listed}
-use Rattle.of_json.specs.declared.altered.Change.{Change}
-use Rattle.of_json.specs.declared.altered.Property.{Property}
-use Rattle.of_json.specs.declared.altered.Property.TheVariants.{InField, TimeToLive}
-use Rattle.of_json.specs.Changes.{changes}
+use Rattle.of_machine.specs.{declared.data.Item.Item, declared.data.Item.TheVariants.PacketIn, declared.data.Item.TheVariants.Sent}
+use Rattle.of_json.specs.{LeavingWords.side_words, Parts.listed, declared.altered.Change.Change, declared.altered.Property.Property}
+use Rattle.of_json.specs.{declared.altered.Property.TheVariants.InField, declared.altered.Property.TheVariants.TimeToLive, Changes.changes}
 
 -- ---- one change: ` ipv4_dst 10.0.0.1 -> 10.0.0.2`
 

@@ -1,12 +1,10 @@
 -- WHAT LEAVES A SWITCH, AS JSON (RFC 8259): members and objects.
 use Rattle.std.specs.Prelude.{ℕ, List, [], ◌∷◌, ◌++◌, codes, decimal, Option, Some, None}
 use Rattle.hex.specs.Hex.{encode_lower}
-use Rattle.of_machine.specs.declared.data.Item.{Item}
-use Rattle.of_machine.specs.declared.data.Item.TheVariants.{PacketIn, Sent}
-use Rattle.of_machine.specs.declared.data.ToController.{ToController}
+use Rattle.of_machine.specs.{declared.data.Item.Item, declared.data.Item.TheVariants.PacketIn, declared.data.Item.TheVariants.Sent, declared.data.ToController.ToController}
 use Rattle.of_json.specs.Parts.{key, listed, number_member, quoted, text_member}
-use Rattle.of_values.specs.Numbers.{hexadecimal}
 use Rattle.of_json.specs.LeavingWords.{reason_said}
+use Rattle.of_values.specs.Numbers.{hexadecimal}
 
 -- the first member of an object: the number of a port, or the controller
 unfoldable pub port_place : List ℕ → ℕ → List ℕ

@@ -1,8 +1,6 @@
 -- PARTS OF JSON (RFC 8259). Strings have no characters that need an escape.
 use Rattle.std.specs.Prelude.{◌≡◌, ℕ, Bool, List, [], ◌∷◌, ◌++◌, Result, OnOk, codes, decimal, if◌then◌else◌}
-use Rattle.std.specs.Borrow.{Bor, MutBor}
-use Rattle.std.specs.Global.{Vec}
-use Rattle.std.specs.List.{flat_map}
+use Rattle.std.specs.{Borrow.Bor, Borrow.MutBor, Global.Vec, List.flat_map}
 use Rattle.of_layers.specs.Fields.{name_of}
 use Rattle.of_oxm.specs.declared.match_field.MatchField.{MatchField}
 use Rattle.of_values.specs.Values.{value_words}

@@ -1,8 +1,7 @@
 -- STRINGS OF JSON (RFC 8259, 7) with any bytes: a quotation mark and a backslash come after a backslash, and a byte that is no printable character of
 -- ASCII is a question mark.
 use Rattle.std.specs.Prelude.{ℕ, ◌==◌, ◌||◌, List, [], ◌∷◌, ◌++◌, drop, codes, if◌then◌else◌}
-use Rattle.std.specs.List.{flat_map}
-use Rattle.std.specs.Global.{Vec}
+use Rattle.std.specs.{List.flat_map, Global.Vec}
 use Rattle.of_ovs_words.specs.Words.{word_name, word_value}
 use Rattle.of_json.specs.Parts.{key, listed}
 use Rattle.of_values.specs.Origins.{printable}

@@ -1,8 +1,8 @@
 //! What leaves a switch and what changed in it, in words.
 ghost use Rattle.std.specs.Prelude.{◌≡◌, ◌≤◌, ◌++◌, OnOk, None, length};
 ghost use Rattle.std.specs.Option.{option_copied};
-ghost use Rattle.of_json.specs.Changes.{changes as changes_from};
 ghost use Rattle.of_json.specs.ChangesInWords.{value_change_words, changed_line, changed_side_words, changed_sides, changed_values_words, count_next, first_line, item_frame as frame_in, is_said_before, item_words, next_words, property_name, property_value, sends_frame, value_there};
+ghost use Rattle.of_json.specs.Changes.{changes as changes_from};
 
 use crate::altered::{Change, Property, changes};
 use crate::{push_listed, push_side};

@@ -1,8 +1,7 @@
 //! What a dump counted of a flow.
 ghost use Rattle.std.specs.Prelude.{◌≡◌, ◌++◌, OnOk};
 ghost use Rattle.of_values.specs.Origins.{view_words};
-ghost use Rattle.of_json.specs.Parts.{listed};
-ghost use Rattle.of_json.specs.Strings.{counter_member, counters_member};
+ghost use Rattle.of_json.specs.{Parts.listed, Strings.counter_member, Strings.counters_member};
 
 use crate::listing::push_listed;
 use crate::parts::push_key;

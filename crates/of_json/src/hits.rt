@@ -1,6 +1,5 @@
 //! The entries that steps hit.
-ghost use Rattle.std.specs.Prelude.{◌≡◌, ◌++◌, IfOk, OnOk};
-ghost use Rattle.std.specs.List.{flat_map};
+ghost use Rattle.std.specs.{Prelude.◌≡◌, Prelude.◌++◌, Prelude.IfOk, Prelude.OnOk, List.flat_map};
 ghost use Rattle.of_json.specs.Hits.{hits_at};
 
 use of_machine::Step;

@@ -1,9 +1,7 @@
 //! The lines of texts as strings.
-ghost use Rattle.std.specs.Prelude.{◌≡◌, ◌++◌, ◌∷◌, OnOk};
-ghost use Rattle.std.specs.List.{flat_map};
+ghost use Rattle.std.specs.{Prelude.◌≡◌, Prelude.◌++◌, Prelude.◌∷◌, Prelude.OnOk, List.flat_map};
 ghost use Rattle.of_text.specs.Lines.{lines_of};
-ghost use Rattle.of_json.specs.Parts.{listed};
-ghost use Rattle.of_json.specs.Strings.{line_string};
+ghost use Rattle.of_json.specs.{Parts.listed, Strings.line_string};
 
 use crate::strings::push_string;
 use of_text::cut;

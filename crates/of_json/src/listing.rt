@@ -1,8 +1,7 @@
 //! Items with commas between them.
 ghost use Rattle.std.specs.Prelude.{◌≡◌, ◌++◌, ◌∷◌, ℕ, List, OnOk};
 ghost use Rattle.std.specs.List.{flat_map};
-ghost use Rattle.of_json.specs.Parts.{AppendsEach, listed};
-ghost use Rattle.of_json.specs.Strings.{array_member};
+ghost use Rattle.of_json.specs.{Parts.AppendsEach, Parts.listed, Strings.array_member};
 
 use crate::strings::begin_array;
 use std::alloc::AllocError;

@@ -1,8 +1,7 @@
 //! Strings of JSON with any bytes.
 ghost use Rattle.std.specs.Prelude.{◌≡◌, ◌++◌, ◌∷◌, [], OnOk};
 ghost use Rattle.std.specs.List.{flat_map};
-ghost use Rattle.of_json.specs.Parts.{key};
-ghost use Rattle.of_json.specs.Strings.{escaped, string, string_member};
+ghost use Rattle.of_json.specs.{Parts.key, Strings.escaped, Strings.string, Strings.string_member};
 
 use crate::parts::push_key;
 use of_values::printable;

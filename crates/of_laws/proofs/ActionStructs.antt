@@ -1,44 +1,27 @@
 -- Actions that are read are their structs, and back.
 use Rattle.std.proofs.Common.{◌≡◌, ℕ, ◌+◌, ◌*◌, ◌%◌, ◌/◌, ◌^◌, ◌<◌, ◌≤◌, Bool, true, false, not, eqb, ltb, leb, cond, List, [], ◌∷◌, ◌++◌, length, drop, Option, Some, None, refl, sym, ap, subst, ◌∙◌, arith}
 use Rattle.std.specs.Prelude.{is_some, map, slice_index, ◌==◌, ◌&&◌, ◌||◌}
-use Rattle.std.specs.Option.{option_and_then, option_map, option_map_or}
-use Rattle.std.specs.List.{All, AllByRecursion, list_all, list_any}
-use Rattle.std.proofs.lemmas.List.Elements.{All-from_recursion}
-use Rattle.std.proofs.lemmas.Bool.{eq-eqb, eqb-true, le-ltb, lt-ltb}
-use Rattle.std.proofs.lemmas.Bool.Decides.{nat_tests}
+use Rattle.std.specs.{Option.option_and_then, Option.option_map, Option.option_map_or, List.All, List.AllByRecursion, List.list_all, List.list_any}
+use Rattle.std.proofs.{lemmas.List.Elements.All-from_recursion, lemmas.Bool.eq-eqb, lemmas.Bool.eqb-true, lemmas.Bool.le-ltb, lemmas.Bool.lt-ltb, lemmas.Bool.Decides.nat_tests}
 use Rattle.std.proofs.lemmas.List.{length-append}
-use Rattle.byteorder.specs.Endian.{big_number}
-use Rattle.byteorder.specs.Numbers.{big_from-lt}
-use Rattle.of_wire.specs.declared.code.Code.{Code}
-use Rattle.of_wire.specs.Refusals.{refusal, first_of}
-use Rattle.of_wire.specs.Items.{AreItems}
-use Rattle.of_wire.proofs.FirstLemmas.{none_applies}
+use Rattle.byteorder.specs.{Endian.big_number, Numbers.big_from-lt}
+use Rattle.of_wire.{specs.declared.code.Code.Code, specs.Refusals.refusal, specs.Refusals.first_of, specs.Items.AreItems, proofs.FirstLemmas.none_applies}
 use Rattle.of_wire.proofs.Numbers.{IsBytes, IsBytes-drop}
-use Rattle.of_layers.specs.declared.field.Field.{Field}
 use Rattle.of_layers.specs.Fields.{bytes_of, field_at, is_settable, number_of, ones_of}
-use Rattle.of_layers.specs.Reading.{is_tag_type}
-use Rattle.of_layers.proofs.TestLemmas.{and_true}
+use Rattle.of_layers.{specs.declared.field.Field.Field, specs.Reading.is_tag_type, proofs.TestLemmas.and_true}
 use Rattle.of_layers.proofs.Table.{bytes_most, field_at-number_of, number_of-field_at}
-use Rattle.of_actions.specs.declared.action.Action.{Action}
-use Rattle.of_actions.specs.declared.action.Action.TheVariants.{PopVlan}
-use Rattle.of_actions.specs.declared.argument.Argument.{Argument}
 use Rattle.of_actions.specs.declared.argument.Argument.TheVariants.{Nothing, Byte, Tag, Word, Port, Field as FieldValue}
-use Rattle.of_actions.specs.declared.rows.ActionRow.{ActionRow}
-use Rattle.of_actions.specs.declared.rows.Form.{Form}
-use Rattle.of_actions.specs.declared.rows.Form.TheVariants as forms
-use Rattle.of_actions.specs.declared.rows.TheConstants.{ACTIONS}
-use Rattle.of_actions.specs.Rows.{action_row, said, action_saying}
 use Rattle.of_actions.specs.Actions.{action_at, wire_action_refusals, argument_of, form_refusals, type_refusals, unknown_type, wrong_size, actions_of, AreActions}
-use Rattle.of_actions.specs.Beginnings.{type_at, len_at}
-use Rattle.of_actions.specs.PortNumbers.{is_port}
-use Rattle.of_actions.specs.Supported.{is_allowed, is_supported, are_supported}
 use Rattle.of_actions.specs.SetField.{settable, set_field_at, set_value_at, set_len, set_refusals, known_set_refusals}
-use Rattle.of_actions.proofs.ActionLists.{is_served_list, served_is}
+use Rattle.of_actions.specs.{declared.action.Action.Action, declared.action.Action.TheVariants.PopVlan, declared.argument.Argument.Argument, declared.rows.ActionRow.ActionRow}
+use Rattle.of_actions.specs.{declared.rows.Form.Form, declared.rows.TheConstants.ACTIONS, Rows.action_row, Rows.said, Rows.action_saying, Beginnings.type_at, Beginnings.len_at, PortNumbers.is_port}
+use Rattle.of_actions.{specs.Supported.is_allowed, specs.Supported.is_supported, specs.Supported.are_supported, proofs.ActionLists.is_served_list, proofs.ActionLists.served_is}
 use Rattle.of_actions.proofs.RowLemmas.{is_said, said_again}
+use Rattle.of_actions.specs.declared.rows.Form.TheVariants as forms
 use Rattle.of_laws.specs.ActionStructs.{action_cells, action_type, action_types, said_cells, AreStructs}
-use Rattle.of_laws.specs.Cells.{u16_cell, Begins}
 use Rattle.of_laws.proofs.ActionTails.{behind_none, form_is, form_of, has_sample, row_again, sample}
 use Rattle.of_laws.proofs.Places.{Says, says, size, rest_is, size_is, front_of}
+use Rattle.of_laws.specs.Cells.{u16_cell, Begins}
 
 -- ---- from what is read to structs
 

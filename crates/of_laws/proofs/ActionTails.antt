@@ -1,32 +1,18 @@
 -- Actions that were computed from bytes are the actions that the bytes are.
 use Rattle.std.proofs.Common.{◌≡◌, ℕ, zero, suc, Bool, true, false, eqb, ltb, cond, List, [], ◌∷◌, drop, Option, Some, None, Ok, refl, subst, arith}
-use Rattle.std.specs.Prelude.{IsSome, find, is_some}
-use Rattle.std.specs.Option.{option_and_then, option_map, option_map_or}
-use Rattle.std.proofs.lemmas.Bool.{eqb-true, ltb-false}
-use Rattle.std.proofs.lemmas.Bool.Decides.{nat_tests}
-use Rattle.std.specs.List.{list_all}
-use Rattle.of_wire.specs.declared.code.Code.{Code}
-use Rattle.of_wire.specs.declared.codes.TheConstants.{OFPBAC_BAD_SET_TYPE}
-use Rattle.of_wire.specs.Refusals.{first_of}
-use Rattle.of_wire.specs.Items.{TakesBytes}
+use Rattle.std.specs.{Prelude.IsSome, Prelude.find, Prelude.is_some, Option.option_and_then, Option.option_map, Option.option_map_or, List.list_all}
+use Rattle.std.proofs.{lemmas.Bool.eqb-true, lemmas.Bool.ltb-false, lemmas.Bool.Decides.nat_tests}
+use Rattle.of_wire.specs.{declared.code.Code.Code, declared.codes.TheConstants.OFPBAC_BAD_SET_TYPE, Refusals.first_of, Items.TakesBytes}
 use Rattle.of_wire.proofs.FirstLemmas.{none_applies, first_false}
 use Rattle.byteorder.specs.Endian.{big_number}
 use Rattle.of_formats.specs.Tables as tables
-use Rattle.of_layers.specs.declared.field.Field.{Field}
-use Rattle.of_layers.specs.declared.field.Field.TheVariants.{EthDst}
-use Rattle.of_layers.proofs.TestLemmas.{and_true}
-use Rattle.of_actions.specs.declared.action.Action.{Action}
-use Rattle.of_actions.specs.declared.action.Action.TheVariants.{PopVlan}
-use Rattle.of_actions.specs.declared.argument.Argument.{Argument}
+use Rattle.of_layers.{specs.declared.field.Field.Field, specs.declared.field.Field.TheVariants.EthDst, proofs.TestLemmas.and_true}
 use Rattle.of_actions.specs.declared.argument.Argument.TheVariants.{Nothing, Byte, Tag, Word, Port, Field as FieldValue}
-use Rattle.of_actions.specs.declared.rows.ActionRow.{ActionRow}
-use Rattle.of_actions.specs.declared.rows.Form.{Form}
-use Rattle.of_actions.specs.declared.rows.Form.TheVariants as forms
-use Rattle.of_actions.specs.declared.rows.TheConstants.{ACTIONS}
-use Rattle.of_actions.specs.Beginnings.{argument_at, type_at, len_at}
-use Rattle.of_actions.specs.Rows.{action_row, said, action_saying}
-use Rattle.of_actions.specs.SetField.{set_field_at, set_value_at, set_refusals, known_set_refusals}
 use Rattle.of_actions.specs.Actions.{actions_of, wire_action_refusals, argument_of, form_refusals, type_refusals, unknown_type, action_at, actions_said, AreActions}
+use Rattle.of_actions.specs.{declared.action.Action.Action, declared.action.Action.TheVariants.PopVlan, declared.argument.Argument.Argument, declared.rows.ActionRow.ActionRow}
+use Rattle.of_actions.specs.{declared.rows.Form.Form, declared.rows.TheConstants.ACTIONS, Beginnings.argument_at, Beginnings.type_at, Beginnings.len_at}
+use Rattle.of_actions.specs.{Rows.action_row, Rows.said, Rows.action_saying, SetField.set_field_at, SetField.set_value_at, SetField.set_refusals, SetField.known_set_refusals}
+use Rattle.of_actions.specs.declared.rows.Form.TheVariants as forms
 use Rattle.of_laws.proofs.Items.{HasValues, are_items}
 
 -- where none is refused, none of the later ones is

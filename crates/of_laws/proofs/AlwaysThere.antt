@@ -1,16 +1,10 @@
 -- What every frame has: its port and the metadata, VLAN_VID by definition, and the numbers of its addresses and its type.
 use Rattle.std.proofs.Common.{ℕ, List, [], ◌∷◌, ◌++◌, Option, Some, None, IsSome, refl, sym, subst}
-use Rattle.std.specs.List.{All}
-use Rattle.std.specs.Option.{option_or}
-use Rattle.std.proofs.lemmas.List.Elements.{All-nil, All-cons}
-use Rattle.of_layers.specs.declared.field.Field.{Field}
+use Rattle.std.{specs.List.All, specs.Option.option_or, proofs.lemmas.List.Elements.All-nil, proofs.lemmas.List.Elements.All-cons}
 use Rattle.of_layers.specs.declared.field.Field.TheVariants.{InPort, Metadata, EthDst, EthSrc, EthType, VlanVid}
-use Rattle.of_layers.specs.Fields.{row_of, number_of}
 use Rattle.of_layers.specs.Layers.{Cell, Layers, cells_in, tag_cells, body_cells, addresses, ether_type, cells}
-use Rattle.of_layers.specs.Looking.{look_up, look}
-use Rattle.of_layers.specs.Reading.{layers_of}
-use Rattle.of_headers.specs.FieldMap.{field_map}
-use Rattle.of_headers.proofs.LookLemmas.{look-append}
+use Rattle.of_layers.specs.{declared.field.Field.Field, Fields.row_of, Fields.number_of, Looking.look_up, Looking.look, Reading.layers_of}
+use Rattle.of_headers.{specs.FieldMap.field_map, proofs.LookLemmas.look-append}
 use Rattle.of_laws.specs.Always.{always}
 
 -- ---- after other cells

@@ -1,17 +1,12 @@
 -- Messages of both sides: each says its length, its type and its transaction id in the same places.
 use Rattle.std.proofs.Common.{◌≡◌, ◌≤◌, ℕ, Bool, true, false, List, [], ◌∷◌, ◌++◌, length, refl, sym, ap, ◌∙◌, arith}
-use Rattle.std.specs.Prelude.{◌==◌}
-use Rattle.std.specs.List.{list_any}
-use Rattle.of_messages.specs.Heads.{header_length, type_of, xid_of}
-use Rattle.of_messages.specs.declared.message.Message.{Message}
+use Rattle.std.specs.{Prelude.◌==◌, List.list_any}
 use Rattle.of_messages.specs.declared.message.Message.TheVariants.{Hello, Error, EchoRequest, EchoReply, FeaturesRequest, GetConfigRequest, SetConfig, PacketOut as IsPacketOut, FlowMod as IsFlowMod, GroupMod as IsGroupMod, PortMod as IsPortMod, TableMod as IsTableMod, Multipart, BarrierRequest, RoleRequest as IsRoleRequest, GetAsyncRequest, SetAsync}
-use Rattle.of_laws.specs.Grammar.{Encodes, fixed_part_cells, type}
+use Rattle.of_messages.specs.{Heads.header_length, Heads.type_of, Heads.xid_of, declared.message.Message.Message}
 use Rattle.of_laws.specs.Told.{Told, EncodesSwitchMessage, hello, error, echo_reply, features_reply, config_reply, packet_in, flow_removed, port_status, barrier_reply, role_reply, async_reply, switch_message_fixed_part, switch_message_type}
-use Rattle.of_laws.proofs.OneMessage.{ends_it}
-use Rattle.of_laws.proofs.Only.{xid_is}
-use Rattle.of_laws.proofs.Places.{Says, says, size, size_is}
 use Rattle.of_laws.specs.AnyMessage.{AreAlike, EncodesAny, controller, told, reply}
-use Rattle.of_laws.specs.Replied.{Reply, EncodesReply, reply_fixed_part}
+use Rattle.of_laws.specs.{Grammar.Encodes, Grammar.fixed_part_cells, Grammar.type, Replied.Reply, Replied.EncodesReply, Replied.reply_fixed_part}
+use Rattle.of_laws.proofs.{OneMessage.ends_it, Only.xid_is, Places.Says, Places.says, Places.size, Places.size_is}
 
 -- what stands in the header
 pub record Header (xid kind : ℕ) (bytes : List ℕ) : Type 0 where

@@ -1,28 +1,18 @@
 -- Buckets that were computed from bytes are those that the bytes are, and back.
 use Rattle.std.proofs.Common.{◌≡◌, ℕ, ◌+◌, ◌-◌, ◌%◌, ◌≤◌, Bool, true, false, not, ltb, eqb, List, [], ◌∷◌, ◌++◌, length, take, drop, Some, None, Result, Ok, Err, refl, sym, ap, subst, ◌∙◌, arith}
-use Rattle.std.specs.Prelude.{IsSome, ◌||◌}
-use Rattle.std.proofs.lemmas.Bool.{le-ltb, eq-eqb}
-use Rattle.std.proofs.lemmas.Bool.Decides.{nat_tests}
 use Rattle.std.proofs.lemmas.List.{length-append, length-take, length-drop, drop-drop, take-append-drop, take_at, drop_at}
+use Rattle.std.{specs.Prelude.IsSome, specs.Prelude.◌||◌, proofs.lemmas.Bool.le-ltb, proofs.lemmas.Bool.eq-eqb, proofs.lemmas.Bool.Decides.nat_tests}
 use Rattle.byteorder.specs.Endian.{big_number}
-use Rattle.of_wire.specs.declared.code.Code.{Code}
-use Rattle.of_wire.specs.Refusals.{first_of, refusal}
-use Rattle.of_wire.specs.Items.{AreItems}
-use Rattle.of_wire.proofs.FirstLemmas.{none_applies}
-use Rattle.of_wire.proofs.ItemsRead.{items_are}
+use Rattle.of_wire.{specs.declared.code.Code.Code, specs.Refusals.first_of, specs.Refusals.refusal, specs.Items.AreItems, proofs.FirstLemmas.none_applies, proofs.ItemsRead.items_are}
 use Rattle.of_wire.proofs.Numbers.{IsBytes, IsBytes-drop}
-use Rattle.of_actions.specs.declared.action.Action.{Action}
-use Rattle.of_actions.specs.Actions.{actions_said}
-use Rattle.of_actions.proofs.ActionsComputed.{actions_are}
+use Rattle.of_actions.{specs.declared.action.Action.Action, specs.Actions.actions_said, proofs.ActionsComputed.actions_are}
 use Rattle.of_groups.specs.declared.bucket.Bucket.{Bucket}
 use Rattle.of_messages.specs.Buckets.{buckets, bucket_of_bytes, bucket_with, bucket_refusals, buckets_said, actions_in, actions_fault, bucket_len_at}
 use Rattle.of_messages.proofs.BucketLemmas.{buckets_take}
 use Rattle.of_formats.specs.Structs.{numbers}
 use Rattle.of_formats.specs.Tables as tables
-use Rattle.of_laws.specs.Buckets.{bucket_cells, BeginsWithBucket, AreBuckets}
-use Rattle.of_laws.proofs.ActionTails.{behind_none, actions_found}
-use Rattle.of_laws.proofs.Items.{HasValues, are_items}
-use Rattle.of_laws.proofs.Places.{says, rest_is, size_is, front_of}
+use Rattle.of_laws.{specs.Buckets.bucket_cells, specs.Buckets.BeginsWithBucket, specs.Buckets.AreBuckets, proofs.ActionTails.behind_none, proofs.ActionTails.actions_found}
+use Rattle.of_laws.proofs.{Items.HasValues, Items.are_items, Places.says, Places.rest_is, Places.size_is, Places.front_of}
 
 -- ---- from buckets to bytes
 

@@ -1,34 +1,19 @@
 -- What messages add, one after the other.
 use Rattle.std.proofs.Common.{◌≡◌, ℕ, ◌+◌, ◌<◌, ◌≤◌, Bool, true, false, List, [], ◌∷◌, ◌++◌, Option, Some, None, Ok, Err, refl, sym, ◌∙◌, ap, arith}
-use Rattle.std.specs.Prelude.{map, nat_lt, ◌&&◌, slice_index_or}
-use Rattle.std.specs.List.{AllByRecursion, list_all, flat_map}
-use Rattle.std.proofs.lemmas.Bool.{le-leb}
-use Rattle.std.proofs.lemmas.Bool.Decides.{nat_tests}
-use Rattle.of_actions.specs.declared.action.Action.{Action}
-use Rattle.of_actions.specs.Rising.{is_ascending}
-use Rattle.of_text.specs.declared.flow.FlowText.{FlowText}
-use Rattle.of_text.specs.declared.group.GroupText.{GroupText}
+use Rattle.std.specs.{Prelude.map, Prelude.nat_lt, Prelude.◌&&◌, Prelude.slice_index_or, List.AllByRecursion, List.list_all, List.flat_map}
+use Rattle.std.proofs.{lemmas.Bool.le-leb, lemmas.Bool.Decides.nat_tests}
+use Rattle.of_actions.specs.{declared.action.Action.Action, Rising.is_ascending}
+use Rattle.of_text.specs.Groups.{TextBucket, TextGroup, bucket_rows, group_rows, rows_of_groups}
+use Rattle.of_text.specs.{declared.flow.FlowText.FlowText, declared.group.GroupText.GroupText, Flows.Flow, Flows.text_rows, Kept.IsKeptFlow, Order.start_place, Order.following, Order.following_all}
+use Rattle.of_text.specs.{Rows.Fits, Texts.AreRows, Views.view, Views.view_group, Views.view_groups, Views.view_flows, First.first_refusal, Configs.Configuration, Configs.tables_of_flows}
+use Rattle.of_text.proofs.{TextLemmas.standing_both, TextLemmas.all_both, KeptLemmas.flows_fit, KeptLemmas.flows_stand, ConfigLemmas.IsWhole, ConfigLemmas.each_whole, ConfigLemmas.rows_from}
 use Rattle.of_lines.specs.declared.order.Place.{Place}
 use Rattle.of_lines.specs.declared.order.Place.TheVariants.{Start, InGroup, InBucket, InFlow}
 use Rattle.of_lines.specs.declared.row.Row.{Row}
 use Rattle.of_lines.specs.declared.row.Row.TheVariants as rows
-use Rattle.of_text.specs.Flows.{Flow, text_rows}
-use Rattle.of_text.specs.Groups.{TextBucket, TextGroup, bucket_rows, group_rows, rows_of_groups}
-use Rattle.of_text.specs.Kept.{IsKeptFlow}
-use Rattle.of_text.specs.Order.{start_place, following, following_all}
-use Rattle.of_text.specs.Rows.{Fits}
-use Rattle.of_text.specs.Texts.{AreRows}
-use Rattle.of_text.specs.Views.{view, view_group, view_groups, view_flows}
-use Rattle.of_text.proofs.TextLemmas.{standing_both, all_both}
-use Rattle.of_text.proofs.KeptLemmas.{flows_fit, flows_stand}
-use Rattle.of_text.proofs.ConfigLemmas.{IsWhole, each_whole, rows_from}
 use Rattle.of_wire.specs.declared.code.Code.{Code}
-use Rattle.of_text.specs.First.{first_refusal}
-use Rattle.of_text.specs.Configs.{Configuration, tables_of_flows}
-use Rattle.of_laws.specs.declared.fault.ConfigFault.{ConfigFault}
-use Rattle.of_laws.specs.declared.fault.ConfigFault.TheVariants.{Refused}
-use Rattle.of_laws.specs.declared.building.Listed.{Listed as InMemory}
 use Rattle.of_laws.specs.Built.{Listed, config_listed, earlier, group_listed, with_fault, with_listed_group}
+use Rattle.of_laws.specs.{declared.fault.ConfigFault.ConfigFault, declared.fault.ConfigFault.TheVariants.Refused, declared.building.Listed.Listed as InMemory}
 use Rattle.of_laws.specs.BuiltViews.{IsSoundListed, joined_with_later, or_later}
 
 and_parts : (a b : Bool) → (a && b) ≡ true → (a ≡ true) × (b ≡ true)

@@ -1,40 +1,18 @@
 -- The messages of a configuration, beside each other, are that configuration.
 use Rattle.std.proofs.Common.{◌≡◌, ℕ, suc, ◌+◌, ◌<◌, ◌≤◌, true, List, [], ◌∷◌, ◌++◌, None, Ok, refl, sym, ◌∙◌, ap, subst, arith}
 use Rattle.std.specs.Prelude.{◌^◌, length, map, bit_and, nat_lt, not, ◌&&◌}
-use Rattle.std.specs.List.{AllByRecursion, list_all}
-use Rattle.std.proofs.lemmas.Bool.{and_parts, ltb-true}
-use Rattle.std.proofs.lemmas.Nat.{and_le_r}
-use Rattle.of_actions.specs.InstructionLists.{are_for}
-use Rattle.of_actions.specs.Rising.{is_ascending}
-use Rattle.of_groups.specs.declared.group.Group.{Group}
-use Rattle.of_groups.specs.Buckets.{are_fit, fresh}
-use Rattle.of_groups.specs.Faults.{is_bad_watch, is_not_one}
-use Rattle.of_text.specs.First.{first_refusal}
+use Rattle.std.{specs.List.AllByRecursion, specs.List.list_all, proofs.lemmas.Bool.and_parts, proofs.lemmas.Bool.ltb-true, proofs.lemmas.Nat.and_le_r}
+use Rattle.of_actions.specs.{InstructionLists.are_for, Rising.is_ascending}
+use Rattle.of_groups.specs.{declared.group.Group.Group, Buckets.are_fit, Buckets.fresh, Faults.is_bad_watch, Faults.is_not_one}
 use Rattle.of_text.specs.Groups.{TextBucket, TextGroup, bucket_of, bucket_text, buckets_of, groups_at}
-use Rattle.of_text.specs.Flows.{Flow, text_rows}
-use Rattle.of_text.specs.Kept.{AllStandBehind}
-use Rattle.of_text.specs.Texts.{AreRows}
-use Rattle.of_text.specs.Configs.{Configuration, IsConfig, all_flows, tables_of_flows}
-use Rattle.of_text.specs.Lines.{lines_of}
-use Rattle.of_text.specs.Texts.{groups_and_flows_text}
-use Rattle.of_text.proofs.ConfigLemmas.{canonical_encodes, rows_again}
-use Rattle.of_text.proofs.GroupLemmas.{config_groups}
-use Rattle.of_text.proofs.TextLemmas.{all_both, one_list}
-use Rattle.of_text.proofs.WriteLemmas.{text_encodes}
-use Rattle.of_messages.specs.CanonicalGroups.{group_add_bytes}
-use Rattle.of_messages.specs.declared.message.Message.TheVariants.{FlowMod as AFlowMod}
-use Rattle.of_messages.specs.Written.{flow_mod_bytes}
-use Rattle.of_messages.proofs.GroupAgain.{group_add_again}
-use Rattle.of_laws.specs.Cells.{FitsCells}
-use Rattle.of_laws.specs.Grammar.{flow_mod_cells}
-use Rattle.of_laws.proofs.Only.{only}
-use Rattle.of_laws.proofs.WrittenRequests.{flow_mod_encoded}
-use Rattle.of_laws.proofs.FlowsAdded.{AreSent, IsSent}
-use Rattle.of_laws.proofs.GroupsAdded.{IsSentGroup}
-use Rattle.of_build.specs.Listing.{add_of, flow_adds, group_adds, new_of}
+use Rattle.of_text.specs.{First.first_refusal, Flows.Flow, Flows.text_rows, Kept.AllStandBehind, Texts.AreRows, Texts.groups_and_flows_text}
+use Rattle.of_text.specs.{Configs.Configuration, Configs.IsConfig, Configs.all_flows, Configs.tables_of_flows, Lines.lines_of}
+use Rattle.of_text.proofs.{ConfigLemmas.canonical_encodes, ConfigLemmas.rows_again, GroupLemmas.config_groups, TextLemmas.all_both, TextLemmas.one_list, WriteLemmas.text_encodes}
+use Rattle.of_messages.{specs.CanonicalGroups.group_add_bytes, specs.declared.message.Message.TheVariants.FlowMod as AFlowMod, specs.Written.flow_mod_bytes, proofs.GroupAgain.group_add_again}
 use Rattle.of_laws.specs.Built.{Said, IsGroup, IsFlow, Listed, config_said, listed_messages, listed_by, message_said, said_by}
-use Rattle.of_laws.proofs.BuildingLemmas.{given_so, group_in}
-use Rattle.of_laws.proofs.ConfigBack.{all_sent, groups_sent}
+use Rattle.of_laws.{specs.Cells.FitsCells, specs.Grammar.flow_mod_cells, proofs.Only.only, proofs.WrittenRequests.flow_mod_encoded, proofs.FlowsAdded.AreSent, proofs.FlowsAdded.IsSent}
+use Rattle.of_laws.proofs.{GroupsAdded.IsSentGroup, BuildingLemmas.given_so, BuildingLemmas.group_in, ConfigBack.all_sent, ConfigBack.groups_sent}
+use Rattle.of_build.specs.Listing.{add_of, flow_adds, group_adds, new_of}
 
 -- ---- a message says what it was made of
 

@@ -1,44 +1,27 @@
 -- Messages are bytes: numbers below 256.
 use Rattle.std.proofs.Common.{◌≡◌, ℕ, ◌+◌, ◌-◌, ◌<◌, suc, zero, true, false, List, [], ◌∷◌, ◌++◌, length, take, drop, Option, Some, None, arith}
-use Rattle.std.specs.Prelude.{replicate}
-use Rattle.std.specs.List.{AllByRecursion, flat_map, list_all}
-use Rattle.std.proofs.Math.Nat.{mod-lt}
-use Rattle.std.proofs.lemmas.Bool.Decides.{nat_tests}
-use Rattle.std.specs.Int.{byte_at}
+use Rattle.std.{specs.Prelude.replicate, specs.List.AllByRecursion, specs.List.flat_map, specs.List.list_all, specs.Int.byte_at, proofs.Math.Nat.mod-lt, proofs.lemmas.Bool.Decides.nat_tests}
 use Rattle.byteorder.specs.Endian.{big_bytes}
 use Rattle.hex.specs.Hex.{IsBytes}
 use Rattle.of_formats.specs.Structs.{Struct, written}
 use Rattle.of_formats.specs.Structs as structs
 use Rattle.of_formats.specs.Tables as tables
-use Rattle.of_layers.specs.declared.field.Field.{Field}
-use Rattle.of_layers.specs.Fields.{bytes_of}
-use Rattle.of_layers.proofs.Table.{number_below, bytes_most}
-use Rattle.of_oxm.specs.declared.match_field.MatchField.{MatchField}
-use Rattle.of_oxm.specs.MatchFieldWire.{encoding}
-use Rattle.of_oxm.specs.MatchGrammar.{padded}
-use Rattle.of_oxm.specs.Canonical.{canonical, written_len}
-use Rattle.of_actions.specs.declared.action.Action.{Action}
-use Rattle.of_actions.specs.declared.argument.Argument.{Argument}
+use Rattle.of_layers.{specs.declared.field.Field.Field, specs.Fields.bytes_of, proofs.Table.number_below, proofs.Table.bytes_most}
+use Rattle.of_oxm.specs.{declared.match_field.MatchField.MatchField, MatchFieldWire.encoding, MatchGrammar.padded, Canonical.canonical, Canonical.written_len}
 use Rattle.of_actions.specs.declared.argument.Argument.TheVariants.{Nothing, Byte, Tag, Word, Port, Field as FieldValue}
-use Rattle.of_actions.specs.Rows.{said}
-use Rattle.of_actions.specs.declared.instruction.Instruction.{Instruction}
 use Rattle.of_actions.specs.declared.instruction.Instruction.TheVariants.{Apply, Clear, Write, Metadata, Goto}
-use Rattle.of_actions.specs.Supported.{is_allowed, is_supported, are_supported}
-use Rattle.of_actions.specs.InstructionLists.{are_kept, is_served_body}
-use Rattle.of_actions.specs.SetField.{set_len}
+use Rattle.of_actions.specs.{declared.action.Action.Action, declared.argument.Argument.Argument, Rows.said, declared.instruction.Instruction.Instruction}
+use Rattle.of_actions.specs.{Supported.is_allowed, Supported.is_supported, Supported.are_supported, InstructionLists.are_kept, InstructionLists.is_served_body, SetField.set_len}
 use Rattle.of_actions.specs.CanonicalActions.{canonical_action, canonical_argument, canonical_actions, canonical_set_field}
 use Rattle.of_actions.specs.CanonicalInstructions.{after_type, canonical_instruction, canonical_instructions}
-use Rattle.of_groups.specs.declared.bucket.Bucket.{Bucket}
-use Rattle.of_groups.specs.declared.group.GroupKind.{GroupKind}
+use Rattle.of_groups.specs.{declared.bucket.Bucket.Bucket, declared.group.GroupKind.GroupKind}
 use Rattle.of_groups.specs.declared.group.GroupKind.TheVariants.{All, Indirect, FastFailover}
-use Rattle.of_groups.specs.Buckets.{are_fit, is_fit}
+use Rattle.of_groups.specs.{Buckets.are_fit, Buckets.is_fit, Groups.kind_number}
 use Rattle.of_text.proofs.TextLemmas.{all_both}
-use Rattle.of_messages.specs.declared.message.FlowMod.{FlowMod}
-use Rattle.of_messages.specs.declared.message.FlowModCommand.{FlowModCommand}
+use Rattle.of_messages.specs.Written.{command_number, flow_mod_bytes, flow_mod_fixed_part, flow_mod_numbers, message}
+use Rattle.of_messages.specs.{declared.message.FlowMod.FlowMod, declared.message.FlowModCommand.FlowModCommand}
 use Rattle.of_messages.specs.declared.message.FlowModCommand.TheVariants.{Add, Modify, Delete}
 use Rattle.of_messages.specs.declared.group_mod.NewGroup.{NewGroup}
-use Rattle.of_messages.specs.Written.{command_number, flow_mod_bytes, flow_mod_fixed_part, flow_mod_numbers, message}
-use Rattle.of_groups.specs.Groups.{kind_number}
 use Rattle.of_messages.specs.CanonicalGroups.{canonical_bucket, canonical_buckets, group_add_bytes, group_add_fixed_part}
 
 -- each is below 256

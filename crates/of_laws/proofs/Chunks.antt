@@ -1,29 +1,16 @@
 -- A chunk that is one message.
 use Rattle.std.proofs.Common.{◌≡◌, ℕ, List, [], ◌∷◌, ◌++◌, length, take, drop, Some, None, Ok, refl, sym, ◌∙◌, ap, arith}
-use Rattle.std.specs.Prelude.{replicate}
-use Rattle.std.proofs.lemmas.List.{append-nil, drop_all}
+use Rattle.std.{specs.Prelude.replicate, proofs.lemmas.List.append-nil, proofs.lemmas.List.drop_all}
 use Rattle.of_wire.specs.Refusals.{first_of}
-use Rattle.of_messages.specs.declared.message.Message.{Message}
-use Rattle.of_messages.specs.declared.role.Role.TheVariants.{Equal}
-use Rattle.of_messages.specs.Heads.{xid_of}
-use Rattle.of_messages.specs.Hellos.{version_by, elements_of}
-use Rattle.of_messages.specs.Messages.{message_of}
-use Rattle.of_messages.specs.Written.{hello_bytes}
-use Rattle.of_session.specs.declared.session.Phase.TheVariants.{Open}
-use Rattle.of_session.specs.declared.session.Next.{Next}
-use Rattle.of_session.specs.declared.session.Next.TheVariants.{Read}
-use Rattle.of_session.specs.Stream.{Whole, IsWholeMessage, beginning_of}
-use Rattle.of_session.specs.Session.{greeting}
-use Rattle.of_session.proofs.Fronts.{message_front}
+use Rattle.of_messages.specs.{declared.message.Message.Message, declared.role.Role.TheVariants.Equal, Heads.xid_of, Hellos.version_by, Hellos.elements_of, Messages.message_of, Written.hello_bytes}
+use Rattle.of_session.specs.{declared.session.Phase.TheVariants.Open, declared.session.Next.Next, declared.session.Next.TheVariants.Read, Stream.Whole, Stream.IsWholeMessage, Stream.beginning_of}
+use Rattle.of_session.{specs.Session.greeting, proofs.Fronts.message_front}
 use Rattle.of_build.specs.Building.{hello}
 use Rattle.of_datapath.specs.declared.effect.Effect.TheVariants.{Answer}
-use Rattle.of_switch.specs.declared.event.Event.{Event}
-use Rattle.of_switch.specs.declared.event.Event.TheVariants.{Connect, Chunk}
-use Rattle.of_switch.specs.State.{Core, State, new_core, start}
 use Rattle.of_switch.specs.Steps.{Outcome, Done, beside, coming, does, done, gives, handled, next_by, next_of, state_refusals}
 use Rattle.of_switch.specs.Runs.{Happened, Gives, Run, drain, drained, happened, run}
-use Rattle.of_switch.proofs.Handling.{handled_done}
-use Rattle.of_switch.proofs.Joining.{drained_more, drained_none}
+use Rattle.of_switch.specs.{declared.event.Event.Event, declared.event.Event.TheVariants.Connect, declared.event.Event.TheVariants.Chunk, State.Core, State.State, State.new_core, State.start}
+use Rattle.of_switch.proofs.{Handling.handled_done, Joining.drained_more, Joining.drained_none}
 
 -- an open connection on which nothing waits
 abbrev pub ready : Core → State

@@ -1,53 +1,29 @@
 -- A configuration comes back from its file.
 use Rattle.std.proofs.Common.{◌≡◌, ℕ, suc, ◌+◌, ◌<◌, ◌≤◌, eqb, true, List, [], ◌∷◌, ◌++◌, length, None, refl, sym, ◌∙◌, ap, subst, arith}
-use Rattle.std.specs.Prelude.{map, replicate, slice_index_or}
-use Rattle.std.proofs.lemmas.Grind.{flat_map-append}
-use Rattle.std.specs.List.{AllByRecursion, flat_map, list_all}
 use Rattle.std.proofs.lemmas.Bool.{and_from, and_parts, eq-eqb, lt-ltb, not-true}
+use Rattle.std.{specs.Prelude.map, specs.Prelude.replicate, specs.Prelude.slice_index_or, specs.List.AllByRecursion, specs.List.flat_map, specs.List.list_all, proofs.lemmas.Grind.flat_map-append}
 use Rattle.std.proofs.lemmas.List.{length-map}
-use Rattle.of_groups.specs.declared.group.Group.{Group}
-use Rattle.of_groups.specs.Chains.{AreShort}
-use Rattle.of_groups.specs.Faults.{is_absent}
-use Rattle.of_groups.specs.Groups.{any_named, is_there}
-use Rattle.of_groups.specs.Sound.{is_fit_group, is_whole}
-use Rattle.of_groups.proofs.ChainLaws.{chain_at_most, chain_there}
-use Rattle.of_groups.proofs.NameLemmas.{or_first, or_true}
+use Rattle.of_groups.specs.{declared.group.Group.Group, Chains.AreShort, Faults.is_absent, Groups.any_named, Groups.is_there, Sound.is_fit_group, Sound.is_whole}
+use Rattle.of_groups.proofs.{ChainLaws.chain_at_most, ChainLaws.chain_there, NameLemmas.or_first, NameLemmas.or_true}
 use Rattle.of_table.specs.Tables.{no_tables, tables_of as empty_tables}
-use Rattle.of_text.specs.Rows.{Fits}
 use Rattle.of_text.specs.Groups.{TextBucket, TextGroup, bucket_of, bucket_rows, group_at, group_rows, groups_at, rows_of_groups}
-use Rattle.of_text.specs.Flows.{Flow as TextFlow, flow_rows, rows_of_all_flows as rows_of_flows}
-use Rattle.of_text.specs.Kept.{AllStandBehind, AreKeptGroups, IsEntry}
 use Rattle.of_text.specs.Configs.{Configuration, IsConfig, EncodeConfig, all_flows, config_text}
-use Rattle.of_text.specs.Lines.{lines_of as text_lines}
 use Rattle.of_text.proofs.ConfigLemmas.{AllFor, all_for, config_fits, one_config, encoded_config}
-use Rattle.of_text.proofs.EntryLemmas.{config_entries, config_stands}
-use Rattle.of_text.proofs.FillLemmas.{sixteen, table_at as text_table_at}
-use Rattle.of_text.proofs.GroupLemmas.{config_groups}
-use Rattle.of_text.proofs.TextLemmas.{all_back, all_front}
-use Rattle.of_messages.specs.CanonicalGroups.{has_numbers}
-use Rattle.of_messages.specs.Written.{hello_bytes}
+use Rattle.of_text.specs.{Rows.Fits, Flows.Flow as TextFlow, Flows.flow_rows, Flows.rows_of_all_flows as rows_of_flows, Kept.AllStandBehind, Kept.AreKeptGroups, Kept.IsEntry}
+use Rattle.of_text.{specs.Lines.lines_of as text_lines, proofs.EntryLemmas.config_entries, proofs.EntryLemmas.config_stands, proofs.FillLemmas.sixteen, proofs.FillLemmas.table_at as text_table_at}
+use Rattle.of_text.proofs.{GroupLemmas.config_groups, TextLemmas.all_back, TextLemmas.all_front}
+use Rattle.of_messages.specs.{CanonicalGroups.has_numbers, Written.hello_bytes}
 use Rattle.of_session.specs.Session.{greeting}
-use Rattle.of_build.specs.Building.{BuildsOf, build_text, hello, chunk_line}
-use Rattle.of_build.specs.Listing.{flow_adds, group_adds, in_turn, messages_of}
-use Rattle.of_datapath.specs.declared.effect.Effect.TheVariants.{Answer}
-use Rattle.of_switch.specs.declared.event.Event.{Event}
-use Rattle.of_switch.specs.declared.event.Event.TheVariants.{Connect, Chunk}
-use Rattle.of_datapath.specs.Loading.{loaded_tables}
-use Rattle.of_switch.specs.Loading.{config_of}
-use Rattle.of_switch.specs.State.{State, new_core, start}
-use Rattle.of_switch.specs.Runs.{Gives, Run, run}
-use Rattle.of_switch.proofs.ToldAgain.{told_again}
-use Rattle.of_replay.specs.FileRuns.{state_after_rows, switch_text}
-use Rattle.of_replay.specs.Lexing.{lines_of_file}
-use Rattle.of_replay.specs.Play.{lines_read}
-use Rattle.of_replay.specs.Rows.{Rows, rows_of_lines}
-use Rattle.of_laws.specs.RoundTrip.{ComesBack, run_of_file}
-use Rattle.of_laws.proofs.ByteLemmas.{are_bytes}
+use Rattle.of_build.specs.{Building.BuildsOf, Building.build_text, Building.hello, Building.chunk_line, Listing.flow_adds, Listing.group_adds, Listing.in_turn, Listing.messages_of}
+use Rattle.of_datapath.specs.{declared.effect.Effect.TheVariants.Answer, Loading.loaded_tables}
+use Rattle.of_switch.specs.{declared.event.Event.Event, declared.event.Event.TheVariants.Connect, declared.event.Event.TheVariants.Chunk, Loading.config_of, State.State, State.new_core, State.start}
+use Rattle.of_switch.{specs.Runs.Gives, specs.Runs.Run, specs.Runs.run, proofs.ToldAgain.told_again}
+use Rattle.of_replay.specs.{FileRuns.state_after_rows, FileRuns.switch_text, Lexing.lines_of_file, Play.lines_read, Rows.Rows, Rows.rows_of_lines}
+use Rattle.of_replay.proofs.EventRowsRead.{IsShown, Means, means_connect, means_chunk}
 use Rattle.of_laws.proofs.FlowsAdded.{AreSent, IsSent, flow_events, flows_lead, flows_shown}
 use Rattle.of_laws.proofs.GroupsAdded.{AreSentGroups, IsSentGroup, group_events, groups_lead, groups_shown}
-use Rattle.of_laws.proofs.StreamMessages.{built}
+use Rattle.of_laws.{specs.RoundTrip.ComesBack, specs.RoundTrip.run_of_file, proofs.ByteLemmas.are_bytes, proofs.StreamMessages.built}
 use Rattle.of_laws.proofs.Chunks.{Leads, greets, leads_first, ready}
-use Rattle.of_replay.proofs.EventRowsRead.{IsShown, Means, means_connect, means_chunk}
 
 -- ---- the groups of a configuration
 

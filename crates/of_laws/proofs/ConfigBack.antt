@@ -1,56 +1,32 @@
 -- A configuration comes back from its messages.
 use Rattle.std.proofs.Common.{◌≡◌, ℕ, suc, ◌+◌, ◌<◌, ◌≤◌, eqb, Bool, true, false, not, List, [], ◌∷◌, ◌++◌, length, Option, Some, None, Ok, refl, sym, ◌∙◌, ap, subst, arith}
 use Rattle.std.specs.Prelude.{map, replicate, slice_index_or, ◌&&◌, ◌||◌}
-use Rattle.std.specs.List.{AllByRecursion, flat_map, list_all}
 use Rattle.std.proofs.lemmas.Bool.{and_from, and_parts, eq-eqb, le-leb, lt-ltb}
-use Rattle.std.proofs.lemmas.List.{length-append, length-map, map-append}
-use Rattle.of_oxm.specs.Canonical.{canonical}
-use Rattle.of_oxm.proofs.Written.{canonical_short}
-use Rattle.of_actions.specs.CanonicalInstructions.{canonical_instructions}
-use Rattle.of_actions.proofs.InstructionLengths.{instructions_short}
-use Rattle.of_groups.specs.declared.group.Group.{Group}
-use Rattle.of_groups.specs.Buckets.{are_fit}
-use Rattle.of_groups.specs.Chains.{AreShort, chain}
-use Rattle.of_groups.specs.Faults.{is_absent, is_bad_watch, is_not_one}
-use Rattle.of_groups.specs.Groups.{any_named, is_there}
-use Rattle.of_groups.specs.Sound.{is_fit_group, is_whole}
-use Rattle.of_groups.proofs.ChainLaws.{chain_at_most, chain_there}
-use Rattle.of_groups.proofs.NameLemmas.{or_first, or_true}
+use Rattle.std.{specs.List.AllByRecursion, specs.List.flat_map, specs.List.list_all, proofs.lemmas.List.length-append, proofs.lemmas.List.length-map, proofs.lemmas.List.map-append}
+use Rattle.of_oxm.{specs.Canonical.canonical, proofs.Written.canonical_short}
+use Rattle.of_actions.{specs.CanonicalInstructions.canonical_instructions, proofs.InstructionLengths.instructions_short}
+use Rattle.of_groups.specs.{declared.group.Group.Group, Buckets.are_fit, Chains.AreShort, Chains.chain, Faults.is_absent, Faults.is_bad_watch, Faults.is_not_one, Groups.any_named, Groups.is_there}
+use Rattle.of_groups.{specs.Sound.is_fit_group, specs.Sound.is_whole, proofs.ChainLaws.chain_at_most, proofs.ChainLaws.chain_there, proofs.NameLemmas.or_first, proofs.NameLemmas.or_true}
 use Rattle.of_table.specs.Tables.{no_tables, tables_of as empty_tables}
-use Rattle.of_text.specs.Rows.{Fits}
 use Rattle.of_text.specs.Groups.{TextBucket, TextGroup, bucket_of, bucket_rows, buckets_of, group_at, group_rows, groups_at, rows_of_groups}
-use Rattle.of_text.specs.Flows.{Flow as TextFlow, flow_rows, rows_of_all_flows as rows_of_flows}
-use Rattle.of_text.specs.Kept.{AllStandBehind, AreKeptGroups, IsEntry}
-use Rattle.of_text.specs.Configs.{Configuration, IsConfig, all_flows}
-use Rattle.of_text.proofs.ConfigLemmas.{AllFor, all_for, config_fits}
-use Rattle.of_text.proofs.EntryLemmas.{config_entries, config_stands}
-use Rattle.of_text.proofs.FillLemmas.{sixteen, table_at as text_table_at}
-use Rattle.of_text.proofs.GroupLemmas.{config_groups}
+use Rattle.of_text.specs.{Rows.Fits, Flows.Flow as TextFlow, Flows.flow_rows, Flows.rows_of_all_flows as rows_of_flows, Kept.AllStandBehind, Kept.AreKeptGroups, Kept.IsEntry}
+use Rattle.of_text.{specs.Configs.Configuration, specs.Configs.IsConfig, specs.Configs.all_flows, proofs.ConfigLemmas.AllFor, proofs.ConfigLemmas.all_for, proofs.ConfigLemmas.config_fits}
+use Rattle.of_text.proofs.{EntryLemmas.config_entries, EntryLemmas.config_stands, FillLemmas.sixteen, FillLemmas.table_at as text_table_at, GroupLemmas.config_groups}
 use Rattle.of_text.proofs.TextLemmas.{all_back, all_both, all_front}
 use Rattle.of_messages.specs.CanonicalGroups.{canonical_buckets, group_add_bytes, group_add_fixed_part, has_numbers}
-use Rattle.of_formats.specs.declared.messages.TheConstants.{FLOW_MOD, GROUP_MOD}
-use Rattle.of_messages.specs.Written.{flow_mod_bytes, flow_mod_fixed_part, message}
-use Rattle.of_messages.proofs.Appended.{length_flow_mod}
+use Rattle.of_messages.{specs.Written.flow_mod_bytes, specs.Written.flow_mod_fixed_part, specs.Written.message, proofs.Appended.length_flow_mod}
 use Rattle.of_messages.proofs.BucketsWritten.{buckets_short, length_front}
+use Rattle.of_formats.specs.declared.messages.TheConstants.{FLOW_MOD, GROUP_MOD}
 use Rattle.of_session.specs.Stream.{length_of}
-use Rattle.of_datapath.specs.declared.effect.Effect.{Effect}
-use Rattle.of_switch.specs.declared.event.Event.{Event}
-use Rattle.of_switch.specs.declared.event.Event.TheVariants.{Chunk}
-use Rattle.of_switch.specs.declared.switch_error.SwitchError.{SwitchError}
-use Rattle.of_switch.specs.Calls.{feed_refusal}
-use Rattle.of_datapath.specs.Loading.{loaded_tables}
-use Rattle.of_switch.specs.Loading.{config_of}
-use Rattle.of_switch.specs.State.{State, new_core, start}
+use Rattle.of_datapath.specs.{declared.effect.Effect.Effect, Loading.loaded_tables}
 use Rattle.of_switch.specs.Runs.{Gives, IsRefused, Report, Happened, Run, happened, chunk_in, run, unless_refusal}
-use Rattle.of_switch.proofs.ToldAgain.{told_again}
-use Rattle.of_laws.proofs.FlowsAdded.{AreSent, IsSent, flow_events, flows_lead}
-use Rattle.of_laws.proofs.GroupsAdded.{AreSentGroups, IsSentGroup, group_events, groups_lead}
-use Rattle.of_laws.proofs.StreamMessages.{built, one_message}
-use Rattle.of_laws.proofs.Chunks.{Leads, ready}
-use Rattle.of_laws.proofs.Present.{all_kept}
-use Rattle.of_build.specs.Listing.{add_of, flow_adds, group_adds, in_turn, messages_of, new_of, of_length}
+use Rattle.of_switch.specs.{declared.event.Event.Event, declared.event.Event.TheVariants.Chunk, declared.switch_error.SwitchError.SwitchError, Calls.feed_refusal, Loading.config_of}
+use Rattle.of_switch.{specs.State.State, specs.State.new_core, specs.State.start, proofs.ToldAgain.told_again}
 use Rattle.of_laws.specs.Sending.{config_by, config_from, is_command}
-use Rattle.of_laws.proofs.SendingLemmas.{greeted_is}
+use Rattle.of_laws.proofs.FlowsAdded.{AreSent, IsSent, flow_events, flows_lead}
+use Rattle.of_laws.proofs.{GroupsAdded.AreSentGroups, GroupsAdded.IsSentGroup, GroupsAdded.group_events, GroupsAdded.groups_lead, StreamMessages.built, StreamMessages.one_message}
+use Rattle.of_laws.proofs.{Chunks.Leads, Chunks.ready, Present.all_kept, SendingLemmas.greeted_is}
+use Rattle.of_build.specs.Listing.{add_of, flow_adds, group_adds, in_turn, messages_of, new_of, of_length}
 
 -- ---- the groups of a configuration
 

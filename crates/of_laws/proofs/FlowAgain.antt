@@ -1,26 +1,16 @@
 -- A FLOW_MOD that is written, whatever its transaction id is: what it says, and that it is read again.
 use Rattle.std.proofs.Common.{◌≡◌, ℕ, ◌+◌, ◌<◌, ◌≤◌, true, List, [], ◌++◌, length, drop, Ok, refl, sym, ◌∙◌, ap, arith}
-use Rattle.std.proofs.lemmas.Bool.{le-ltb}
-use Rattle.std.proofs.lemmas.List.{length-append}
+use Rattle.std.proofs.{lemmas.Bool.le-ltb, lemmas.List.length-append}
 use Rattle.byteorder.specs.Numbers.{big_number-reads_back}
-use Rattle.of_formats.specs.Structs.{FitsStruct, numbers}
+use Rattle.of_formats.{specs.Structs.FitsStruct, specs.Structs.numbers, proofs.StructLaws.numbers_at, proofs.StructLaws.written_is_read}
 use Rattle.of_formats.specs.Tables as tables
-use Rattle.of_formats.proofs.StructLaws.{numbers_at, written_is_read}
-use Rattle.of_oxm.specs.NormalForm.{IsMatch}
-use Rattle.of_oxm.specs.Canonical.{canonical}
-use Rattle.of_actions.specs.CanonicalInstructions.{canonical_instructions}
-use Rattle.of_actions.specs.InstructionLists.{are_for, are_kept}
-use Rattle.of_messages.specs.declared.message.FlowMod.{FlowMod}
-use Rattle.of_messages.specs.declared.message.Message.TheVariants.{FlowMod as IsFlowMod}
-use Rattle.of_messages.specs.Heads.{header_length, type_of, version_of}
+use Rattle.of_oxm.specs.{NormalForm.IsMatch, Canonical.canonical}
+use Rattle.of_actions.specs.{CanonicalInstructions.canonical_instructions, InstructionLists.are_for, InstructionLists.are_kept}
+use Rattle.of_messages.specs.{declared.message.FlowMod.FlowMod, declared.message.Message.TheVariants.FlowMod as IsFlowMod, Heads.header_length, Heads.type_of, Heads.version_of}
 use Rattle.of_messages.specs.Messages.{flow_mod_by, flow_mod_of, message_of}
 use Rattle.of_messages.specs.Written.{flow_mod_bytes, flow_mod_fixed_part, flow_mod_numbers, flow_mod_numbers as said_numbers}
-use Rattle.of_laws.specs.Grammar.{IsValidFlowMod, MatchThenInstructions, deletes}
-use Rattle.of_laws.proofs.Heads.{as_flow_mod, body_by, flow_mod}
-use Rattle.of_laws.proofs.Only.{of_kind}
-use Rattle.of_laws.proofs.OnlyLarge.{flow_mod_read}
-use Rattle.of_laws.proofs.Refusing.{canonical_least}
-use Rattle.of_laws.proofs.WrittenRequests.{command_same, tail_is, tail_short}
+use Rattle.of_laws.{specs.Grammar.IsValidFlowMod, specs.Grammar.MatchThenInstructions, specs.Grammar.deletes, proofs.Heads.as_flow_mod, proofs.Heads.body_by, proofs.Heads.flow_mod}
+use Rattle.of_laws.proofs.{Only.of_kind, OnlyLarge.flow_mod_read, Refusing.canonical_least, WrittenRequests.command_same, WrittenRequests.tail_is, WrittenRequests.tail_short}
 
 -- what a message says, over a variable, where nothing has computed to bytes yet
 pub record Says (m : FlowMod) (b : List ℕ) : Type 0 where

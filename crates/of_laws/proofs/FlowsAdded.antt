@@ -2,46 +2,26 @@
 use Rattle.std.proofs.Common.{◌≡◌, ℕ, zero, suc, ◌+◌, ◌<◌, ◌≤◌, eqb, Bool, true, false, not, List, [], ◌∷◌, ◌++◌, length, drop, get_or, set, None, refl, sym, ◌∙◌, ap, subst, append_assoc, arith, Ok}
 use Rattle.std.specs.Prelude.{◌&&◌, ◌||◌, map, nat_le, bit_and, replicate}
 use Rattle.std.specs.List.{AllByRecursion, list_any, flat_map}
-use Rattle.std.proofs.lemmas.Bool.{and_parts, eq-eqb, eqb-true, and_right}
-use Rattle.std.proofs.lemmas.Bool.Decides.{nat_tests}
-use Rattle.std.proofs.lemmas.Nat.{and_le_r}
+use Rattle.std.proofs.{lemmas.Bool.and_parts, lemmas.Bool.eq-eqb, lemmas.Bool.eqb-true, lemmas.Bool.and_right, lemmas.Bool.Decides.nat_tests, lemmas.Nat.and_le_r}
 use Rattle.std.proofs.lemmas.List.{append-nil, map-append, length-map, length-append}
 use Rattle.of_wire.specs.Refusals.{first_of}
-use Rattle.of_oxm.proofs.Written.{canonical_short}
-use Rattle.of_oxm.specs.Canonical.{canonical}
-use Rattle.of_actions.specs.CanonicalInstructions.{canonical_instructions}
-use Rattle.of_actions.proofs.InstructionLengths.{instructions_short}
-use Rattle.of_actions.specs.InstructionLists.{are_for}
+use Rattle.of_oxm.{specs.Canonical.canonical, proofs.Written.canonical_short}
+use Rattle.of_actions.{specs.CanonicalInstructions.canonical_instructions, specs.InstructionLists.are_for, proofs.InstructionLengths.instructions_short}
 use Rattle.of_formats.specs.Structs.{FitsStruct}
 use Rattle.of_formats.specs.Tables as tables
 use Rattle.of_table.specs.Table.{FlowEntry, Table, added, empty_table, is_full, is_same}
 use Rattle.of_table.specs.Tables.{Tables, added_to, no_tables, table_at, tables_of}
 use Rattle.of_table.proofs.PlaceLemmas.{find_none, filter_others}
-use Rattle.of_text.specs.Flows.{Flow as TextFlow}
-use Rattle.of_text.specs.Groups.{TextGroup, groups_at}
-use Rattle.of_text.specs.Kept.{AllStandBehind, IsEntry}
-use Rattle.of_text.specs.Refusals.{names_absent, has_same_match as is_same_text}
-use Rattle.of_text.specs.Configs.{all_flows}
-use Rattle.of_text.specs.Rows.{HeadFits}
-use Rattle.of_messages.specs.declared.message.Message.TheVariants.{FlowMod as IsFlowMod}
-use Rattle.of_messages.specs.Messages.{message_of}
-use Rattle.of_messages.specs.Written.{flow_mod_bytes, flow_mod_fixed_part, flow_mod_numbers}
+use Rattle.of_text.specs.{Flows.Flow as TextFlow, Groups.TextGroup, Groups.groups_at, Kept.AllStandBehind, Kept.IsEntry, Refusals.names_absent, Refusals.has_same_match as is_same_text}
+use Rattle.of_text.specs.{Configs.all_flows, Rows.HeadFits}
+use Rattle.of_messages.specs.{declared.message.Message.TheVariants.FlowMod as IsFlowMod, Messages.message_of, Written.flow_mod_bytes, Written.flow_mod_fixed_part, Written.flow_mod_numbers}
 use Rattle.of_messages.proofs.Appended.{length_flow_mod}
-use Rattle.of_build.specs.Building.{chunk_line}
-use Rattle.of_build.specs.Listing.{add_of, flow_adds}
-use Rattle.of_datapath.specs.Buffers.{none_held}
-use Rattle.of_switch.specs.declared.event.Event.{Event}
-use Rattle.of_switch.specs.declared.event.Event.TheVariants.{Chunk}
-use Rattle.of_datapath.specs.Commands.{flow_mod_refusals, flow_of, has_flag, names_absent_group}
-use Rattle.of_datapath.specs.Loading.{loaded_entry, loaded_table, loaded_tables}
-use Rattle.of_switch.specs.State.{State}
-use Rattle.of_switch.specs.Runs.{Gives, happened}
+use Rattle.of_build.specs.{Building.chunk_line, Listing.add_of, Listing.flow_adds}
 use Rattle.of_datapath.proofs.LoadLemmas.{filled, filled_all, filled_more, filled_next, filled_none}
-use Rattle.of_datapath.proofs.StandingLemmas.{same_named}
-use Rattle.of_laws.proofs.ByteLemmas.{flow_mod_are_bytes}
-use Rattle.of_laws.proofs.FlowAgain.{flow_mod_again}
-use Rattle.of_laws.proofs.StreamMessages.{built, one_message}
-use Rattle.of_laws.proofs.Chunks.{Leads, handles, leads_first, ready}
+use Rattle.of_datapath.specs.{Buffers.none_held, Commands.flow_mod_refusals, Commands.flow_of, Commands.has_flag, Commands.names_absent_group}
+use Rattle.of_datapath.{specs.Loading.loaded_entry, specs.Loading.loaded_table, specs.Loading.loaded_tables, proofs.StandingLemmas.same_named}
+use Rattle.of_switch.specs.{declared.event.Event.Event, declared.event.Event.TheVariants.Chunk, State.State, Runs.Gives, Runs.happened}
+use Rattle.of_laws.proofs.{ByteLemmas.flow_mod_are_bytes, FlowAgain.flow_mod_again, StreamMessages.built, StreamMessages.one_message, Chunks.Leads, Chunks.handles, Chunks.leads_first, Chunks.ready}
 use Rattle.of_replay.proofs.EventRowsRead.{IsShown, Means, means_end, means_chunk}
 
 -- ---- flags: 2 asks for a check

@@ -1,36 +1,18 @@
 -- What was read as a message encodes it.
 use Rattle.std.proofs.Common.{◌≡◌, ◌≤◌, ◌+◌, ℕ, Bool, false, not, eqb, List, length, drop, Result, Ok, Err, refl, sym, ap, subst, ◌∙◌, arith}
-use Rattle.std.specs.Prelude.{◌&&◌}
-use Rattle.std.proofs.lemmas.Bool.{ltb-false}
-use Rattle.of_wire.specs.declared.code.Code.{Code}
-use Rattle.of_wire.proofs.Numbers.{IsBytes}
-use Rattle.of_messages.specs.declared.config.SwitchConfig.{SwitchConfig}
-use Rattle.of_messages.specs.declared.config.TableMod.{TableMod}
-use Rattle.of_messages.specs.declared.group_mod.GroupMod.{GroupMod}
-use Rattle.of_messages.specs.declared.message.FlowMod.{FlowMod}
-use Rattle.of_messages.specs.declared.message.Message.{Message}
+use Rattle.std.{specs.Prelude.◌&&◌, proofs.lemmas.Bool.ltb-false}
+use Rattle.of_wire.{specs.declared.code.Code.Code, proofs.Numbers.IsBytes}
 use Rattle.of_messages.specs.declared.message.Message.TheVariants.{Hello, Error, EchoRequest, EchoReply, FeaturesRequest, GetConfigRequest, SetConfig, PacketOut as IsPacketOut, FlowMod as IsFlowMod, GroupMod as IsGroupMod, PortMod as IsPortMod, TableMod as IsTableMod, Multipart, BarrierRequest, RoleRequest as IsRoleRequest, GetAsyncRequest, SetAsync}
-use Rattle.of_messages.specs.declared.message.PacketOut.{PacketOut}
-use Rattle.of_messages.specs.declared.multipart.MultipartRequest.{MultipartRequest}
-use Rattle.of_messages.specs.declared.port_mod.PortMod.{PortMod}
-use Rattle.of_messages.specs.declared.role.RoleRequest.{RoleRequest}
-use Rattle.of_messages.specs.AsyncConfigs.{async_masks_of}
-use Rattle.of_messages.specs.Configs.{set_config_of, table_mod_of}
-use Rattle.of_messages.specs.GroupMods.{group_mod_of}
-use Rattle.of_messages.specs.Heads.{version_of, xid_of, actions_length}
-use Rattle.of_messages.specs.Messages.{message_of, flow_mod_of, packet_out_of}
-use Rattle.of_messages.specs.Multiparts.{multipart_of}
-use Rattle.of_messages.specs.PortMods.{port_mod_of}
+use Rattle.of_messages.specs.{declared.config.SwitchConfig.SwitchConfig, declared.config.TableMod.TableMod, declared.group_mod.GroupMod.GroupMod, declared.message.FlowMod.FlowMod}
+use Rattle.of_messages.specs.{declared.message.Message.Message, declared.message.PacketOut.PacketOut, declared.multipart.MultipartRequest.MultipartRequest, declared.port_mod.PortMod.PortMod}
+use Rattle.of_messages.specs.{declared.role.RoleRequest.RoleRequest, AsyncConfigs.async_masks_of, Configs.set_config_of, Configs.table_mod_of, GroupMods.group_mod_of}
+use Rattle.of_messages.specs.{Heads.version_of, Heads.xid_of, Heads.actions_length, Messages.message_of, Messages.flow_mod_of, Messages.packet_out_of, Multiparts.multipart_of, PortMods.port_mod_of}
 use Rattle.of_messages.specs.Roles.{role_request_of}
-use Rattle.of_laws.specs.Grammar.{fixed_part_cells, IsValid, Encodes, Tail}
-use Rattle.of_laws.specs.Requests.{request_cells}
-use Rattle.of_laws.proofs.FoundLarge.{packet_out_found, flow_mod_found, group_mod_found}
-use Rattle.of_laws.proofs.FoundRequests.{ended, exact, request_found}
 use Rattle.of_laws.proofs.FoundSmall.{async_found, config_found, port_mod_found, role_found, table_mod_found}
 use Rattle.of_laws.proofs.Heads.{Kind, hello, error, echo_request, echo_reply, features_request, get_config_request, set_config, packet_out, flow_mod, group_mod, port_mod, table_mod, multipart, barrier_request, role_request, get_async_request, set_async, type_number, body_by, as_flow_mod, as_packet_out, as_group_mod, as_port_mod, as_table_mod, as_set_config, as_role_request, as_multipart, Head, said}
-use Rattle.of_laws.proofs.Places.{Says, size, front_of}
-use Rattle.of_laws.proofs.OnlyLarge.{group_size}
-use Rattle.of_laws.proofs.OnlySmall.{role_size}
+use Rattle.of_laws.specs.{Grammar.fixed_part_cells, Grammar.IsValid, Grammar.Encodes, Grammar.Tail, Requests.request_cells}
+use Rattle.of_laws.proofs.{FoundLarge.packet_out_found, FoundLarge.flow_mod_found, FoundLarge.group_mod_found, FoundRequests.ended, FoundRequests.exact, FoundRequests.request_found}
+use Rattle.of_laws.proofs.{Places.Says, Places.size, Places.front_of, OnlyLarge.group_size, OnlySmall.role_size}
 
 made : (v : Message) (m : List ℕ) (n : ℕ) → IsBytes m → size (fixed_part_cells v (length m) (xid_of m)) ≡ n → n ≤ length m → Says 0 (fixed_part_cells v (length m) (xid_of m)) m → Tail v (drop n m) → IsValid v → Encodes (xid_of m) v m
 made v m n fits size_is long says behind valid =

@@ -1,50 +1,28 @@
 -- What was read as a PACKET_OUT, a FLOW_MOD or a GROUP_MOD is in its places, and after them.
 use Rattle.std.proofs.Common.{◌≡◌, ◌≤◌, ◌<◌, ◌+◌, ℕ, zero, suc, Bool, true, false, not, eqb, ltb, cond, List, [], ◌∷◌, ◌++◌, length, take, drop, Some, None, Result, Ok, Err, refl, sym, ap, subst, ◌∙◌, arith, inl, inr}
 use Rattle.std.specs.Prelude.{slice_index, ◌&&◌, ◌||◌, is_none}
-use Rattle.std.proofs.lemmas.Bool.{eqb-true, eqb-false, ltb-false, not-false}
-use Rattle.std.proofs.lemmas.Bool.Decides.{nat_tests}
+use Rattle.std.proofs.{lemmas.Bool.eqb-true, lemmas.Bool.eqb-false, lemmas.Bool.ltb-false, lemmas.Bool.not-false, lemmas.Bool.Decides.nat_tests}
 use Rattle.std.proofs.lemmas.List.{length-drop, length-take, take-append-drop}
-use Rattle.of_wire.specs.declared.limits.TheConstants.{OFPG_ALL, OFPP_CONTROLLER}
-use Rattle.byteorder.specs.Endian.{big_number}
-use Rattle.of_wire.specs.declared.code.Code.{Code}
-use Rattle.of_wire.specs.Refusals.{refusal}
+use Rattle.of_wire.specs.{declared.limits.TheConstants.OFPG_ALL, declared.limits.TheConstants.OFPP_CONTROLLER, declared.code.Code.Code, Refusals.refusal}
 use Rattle.of_wire.proofs.Numbers.{IsBytes, IsBytes-drop}
+use Rattle.byteorder.specs.Endian.{big_number}
 use Rattle.of_headers.specs.Faults.{frame_fault}
-use Rattle.of_oxm.specs.declared.match_field.MatchField.{MatchField}
-use Rattle.of_oxm.specs.MatchReading.{match_of}
-use Rattle.of_actions.specs.declared.instruction.Instruction.{Instruction}
-use Rattle.of_actions.specs.Actions.{actions_said}
-use Rattle.of_actions.specs.FlowCheck.{all_go_with}
-use Rattle.of_actions.specs.PortNumbers.{is_number}
+use Rattle.of_oxm.specs.{declared.match_field.MatchField.MatchField, MatchReading.match_of}
+use Rattle.of_actions.specs.{declared.instruction.Instruction.Instruction, Actions.actions_said, FlowCheck.all_go_with, PortNumbers.is_number}
 use Rattle.of_groups.specs.declared.group.GroupKind.{GroupKind}
-use Rattle.of_groups.specs.declared.group.GroupKind.TheVariants.{All, Indirect, FastFailover}
-use Rattle.of_groups.specs.Groups.{kind_number}
-use Rattle.of_messages.specs.declared.group_mod.GroupMod.{GroupMod}
-use Rattle.of_messages.specs.declared.group_mod.GroupMod.TheVariants as group
-use Rattle.of_messages.specs.declared.group_mod.NewGroup.{NewGroup}
-use Rattle.of_messages.specs.declared.message.FlowMod.{FlowMod}
-use Rattle.of_messages.specs.declared.message.FlowModCommand.{FlowModCommand}
-use Rattle.of_messages.specs.declared.message.FlowModCommand.TheVariants.{Add, Modify, Delete}
-use Rattle.of_messages.specs.declared.message.PacketData.{PacketData}
-use Rattle.of_messages.specs.declared.message.PacketData.TheVariants.{Buffered, Frame}
-use Rattle.of_messages.specs.declared.message.PacketOut.{PacketOut}
-use Rattle.of_messages.specs.Buckets.{buckets_said}
+use Rattle.of_groups.specs.{declared.group.GroupKind.TheVariants.All, declared.group.GroupKind.TheVariants.Indirect, declared.group.GroupKind.TheVariants.FastFailover, Groups.kind_number}
 use Rattle.of_messages.specs.GroupMods.{command_of_group_mod as group_command_of, is_above, group_kind_of, group_of, delete_of, group_mod_of}
-use Rattle.of_messages.specs.Heads.{actions_length}
 use Rattle.of_messages.specs.Messages.{command_of, command_said, is_bad_table, instructions_for, flow_mod_of, is_ingress, packet_in_data, packet_out_of}
-use Rattle.of_messages.specs.Written.{command_number}
-use Rattle.of_formats.specs.Reading.{known}
-use Rattle.of_formats.proofs.Binding.{bound, passed, is_known, same_ok}
-use Rattle.of_laws.specs.Buckets.{AreBuckets}
-use Rattle.of_laws.specs.Cells.{StructCell, u16_cell, u32_cell, pad}
+use Rattle.of_messages.specs.{declared.group_mod.GroupMod.GroupMod, declared.group_mod.NewGroup.NewGroup, declared.message.FlowMod.FlowMod, declared.message.FlowModCommand.FlowModCommand}
+use Rattle.of_messages.specs.declared.message.FlowModCommand.TheVariants.{Add, Modify, Delete}
+use Rattle.of_messages.specs.{declared.message.PacketData.PacketData, declared.message.PacketData.TheVariants.Buffered, declared.message.PacketData.TheVariants.Frame}
+use Rattle.of_messages.specs.{declared.message.PacketOut.PacketOut, Buckets.buckets_said, Heads.actions_length, Written.command_number}
+use Rattle.of_messages.specs.declared.group_mod.GroupMod.TheVariants as group
+use Rattle.of_formats.{specs.Reading.known, proofs.Binding.bound, proofs.Binding.passed, proofs.Binding.is_known, proofs.Binding.same_ok}
 use Rattle.of_laws.specs.Grammar.{IsData, IsValidData, IsIngress, IsValidPacketOut, ActionsThenData, buffer_of, flow_mod_cells, deletes, HasInstructions, MatchThenInstructions, MayName, IsValidFlowMod, group_mod_cells, GroupTail, IsValidGroup, IsValidGroupMod}
-use Rattle.of_laws.specs.Requests.{NamesTable}
-use Rattle.of_laws.proofs.ActionTails.{actions_found}
-use Rattle.of_laws.proofs.BucketTails.{buckets_found}
-use Rattle.of_laws.proofs.InstructionTails.{instructions_found}
-use Rattle.of_laws.proofs.MatchTails.{match_found}
 use Rattle.of_laws.proofs.OnlyLarge.{actions_in, frame_in, command_in, number_in, group_in, as_add, as_modify, by_add, by_modify, by_delete}
-use Rattle.of_laws.proofs.Places.{Says, begins}
+use Rattle.of_laws.{specs.Buckets.AreBuckets, specs.Cells.StructCell, specs.Cells.u16_cell, specs.Cells.u32_cell, specs.Cells.pad, specs.Requests.NamesTable, proofs.ActionTails.actions_found}
+use Rattle.of_laws.proofs.{BucketTails.buckets_found, InstructionTails.instructions_found, MatchTails.match_found, Places.Says, Places.begins}
 
 -- ---- PACKET_OUT
 

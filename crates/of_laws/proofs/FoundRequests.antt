@@ -1,28 +1,18 @@
 -- What was read as a MULTIPART_REQUEST is in its places, and after them.
 use Rattle.std.proofs.Common.{◌≡◌, ◌≤◌, ◌+◌, ◌%◌, ℕ, Bool, true, false, not, eqb, ltb, cond, List, [], ◌∷◌, length, take, drop, Option, Some, None, Result, Ok, Err, refl, sym, ap, subst, ◌∙◌, arith}
 use Rattle.std.specs.Prelude.{slice_index, ◌==◌, if◌then◌else◌, is_none}
-use Rattle.std.proofs.lemmas.Bool.{eqb-true, eqb-false, ltb-false, not-false}
-use Rattle.std.proofs.lemmas.Bool.Decides.{nat_tests}
-use Rattle.std.proofs.lemmas.List.{drop_all, take-append-drop}
-use Rattle.of_wire.specs.declared.limits.TheConstants.{OFPG_ALL, OFPP_ANY}
+use Rattle.std.proofs.{lemmas.Bool.eqb-true, lemmas.Bool.eqb-false, lemmas.Bool.ltb-false, lemmas.Bool.not-false, lemmas.Bool.Decides.nat_tests, lemmas.List.drop_all, lemmas.List.take-append-drop}
+use Rattle.of_wire.specs.{declared.limits.TheConstants.OFPG_ALL, declared.limits.TheConstants.OFPP_ANY, declared.code.Code.Code, Refusals.refusal, Refusals.first_of}
+use Rattle.of_wire.proofs.{FirstLemmas.none_applies, Numbers.IsBytes, Numbers.IsBytes-drop}
 use Rattle.byteorder.specs.Endian.{big_number}
-use Rattle.of_wire.specs.declared.code.Code.{Code}
-use Rattle.of_wire.specs.Refusals.{refusal, first_of}
-use Rattle.of_wire.proofs.FirstLemmas.{none_applies}
-use Rattle.of_wire.proofs.Numbers.{IsBytes, IsBytes-drop}
 use Rattle.of_oxm.specs.MatchReading.{match_of}
-use Rattle.of_messages.specs.declared.multipart.FlowStatsRequest.{FlowStatsRequest}
-use Rattle.of_messages.specs.declared.multipart.MultipartRequest.{MultipartRequest}
 use Rattle.of_messages.specs.declared.multipart.MultipartRequest.TheVariants.{Description, Flow, Aggregate, Table, PortStats, Group, GroupDescription, GroupFeatures, PortDescription}
-use Rattle.of_messages.specs.Configs.{names_table}
-use Rattle.of_formats.specs.Messages.{is_bad_size}
 use Rattle.of_messages.specs.Multiparts.{multipart_kind_of, multipart_kind_in, size_asked, multipart_refusals, multipart_by, flow_stats_of, one_or_all, requested_number, multipart_of}
-use Rattle.of_formats.proofs.Binding.{bound, passed, same_ok}
+use Rattle.of_messages.specs.{declared.multipart.FlowStatsRequest.FlowStatsRequest, declared.multipart.MultipartRequest.MultipartRequest, Configs.names_table}
+use Rattle.of_formats.{specs.Messages.is_bad_size, proofs.Binding.bound, proofs.Binding.passed, proofs.Binding.same_ok}
 use Rattle.of_laws.specs.Requests.{BeginsMatch, IsOne, IsValidRequest, NamesTable, RequestTail, flows_cells, or_all, request_cells}
-use Rattle.of_laws.proofs.FoundSmall.{named}
-use Rattle.of_laws.proofs.MatchTails.{match_found}
 use Rattle.of_laws.proofs.OnlyRequests.{Asks, as_flow, as_aggregate, asks_0, asks_1, asks_2, asks_3, asks_4, asks_6, asks_7, asks_8, asks_13}
-use Rattle.of_laws.proofs.Places.{Says, size}
+use Rattle.of_laws.proofs.{FoundSmall.named, MatchTails.match_found, Places.Says, Places.size}
 
 -- ---- FLOW and AGGREGATE
 

@@ -1,28 +1,16 @@
 -- What was read as a small message is in its places.
 use Rattle.std.proofs.Common.{◌≡◌, ◌≤◌, ℕ, Bool, true, false, eqb, ltb, cond, List, [], ◌∷◌, length, drop, Some, Result, Ok, Err, refl, subst, arith, inl, inr}
-use Rattle.std.specs.Prelude.{slice_index, bit_and, ◌||◌}
-use Rattle.std.proofs.lemmas.Bool.{eqb-true, ltb-true}
-use Rattle.std.proofs.lemmas.Bool.Decides.{nat_tests}
+use Rattle.std.{specs.Prelude.slice_index, specs.Prelude.bit_and, specs.Prelude.◌||◌, proofs.lemmas.Bool.eqb-true, proofs.lemmas.Bool.ltb-true, proofs.lemmas.Bool.Decides.nat_tests}
 use Rattle.byteorder.specs.Endian.{big_number}
-use Rattle.of_wire.specs.declared.code.Code.{Code}
-use Rattle.of_wire.specs.Refusals.{refusal}
-use Rattle.of_messages.specs.declared.async_masks.AsyncMasks.{AsyncMasks}
-use Rattle.of_messages.specs.declared.config.SwitchConfig.{SwitchConfig}
-use Rattle.of_messages.specs.declared.config.TableMod.{TableMod}
-use Rattle.of_messages.specs.declared.port_mod.PortMod.{PortMod}
+use Rattle.of_wire.specs.{declared.code.Code.Code, Refusals.refusal}
+use Rattle.of_messages.specs.{declared.async_masks.AsyncMasks.AsyncMasks, declared.config.SwitchConfig.SwitchConfig, declared.config.TableMod.TableMod, declared.port_mod.PortMod.PortMod}
 use Rattle.of_messages.specs.declared.role.RoleRequest.{RoleRequest}
 use Rattle.of_messages.specs.declared.role.RoleRequest.TheVariants.{NoChange, Equal, Master, Slave}
-use Rattle.of_messages.specs.AsyncConfigs.{async_masks_of}
-use Rattle.of_messages.specs.Configs.{set_config_of, names_table, table_mod_of}
-use Rattle.of_messages.specs.PortMods.{known_bits, port_mod_of}
+use Rattle.of_messages.specs.{AsyncConfigs.async_masks_of, Configs.set_config_of, Configs.names_table, Configs.table_mod_of, PortMods.known_bits, PortMods.port_mod_of}
 use Rattle.of_messages.specs.Roles.{asked_by, role_request_of}
-use Rattle.of_formats.specs.Structs.{bytes_from}
-use Rattle.of_formats.proofs.Binding.{is_known}
+use Rattle.of_formats.{specs.Structs.bytes_from, proofs.Binding.is_known}
 use Rattle.of_laws.specs.Cells.{byte, u16_cell, u32_cell, pad, plain}
-use Rattle.of_laws.specs.Grammar.{role_cells, async_config_cells}
-use Rattle.of_laws.specs.Requests.{NamesTable}
-use Rattle.of_laws.proofs.OnlySmall.{six_bytes}
-use Rattle.of_laws.proofs.Places.{Says}
+use Rattle.of_laws.{specs.Grammar.role_cells, specs.Grammar.async_config_cells, specs.Requests.NamesTable, proofs.OnlySmall.six_bytes, proofs.Places.Says}
 
 pub config_found : (c : SwitchConfig) (m : List ℕ) → set_config_of m ≡ Ok c → Says 8 (u16_cell 0 ∷ u16_cell c.miss_send_len ∷ []) m
 config_found c m h = by_flags (eqb (big_number 2 (drop 8 m)) 0) refl h

@@ -1,16 +1,11 @@
 -- The value of a field of well-formed layers has no bit beyond those of the field.
 use Rattle.std.proofs.Common.{◌≡◌, ℕ, ◌-◌, ◌^◌, ◌<◌, ◌≤◌, true, List, [], ◌∷◌, length, Option, Some, None, refl, sym, subst, arith}
+use Rattle.of_layers.specs.declared.transport.Transport.TheVariants.{Nothing, Tcp, Udp, Icmpv4, Icmpv6}
+use Rattle.of_layers.specs.Layers.{Item, plain, named, Extension, Layers, next_before, addresses, outer_tag, ether_type, arp, ipv4, ipv6, options, fragment, items_of, cells}
 use Rattle.of_layers.specs.declared.field.Field.{Field}
 use Rattle.of_layers.specs.declared.field.Field.TheVariants.{InPort, Metadata, VlanVid, IpProto}
-use Rattle.of_layers.specs.declared.transport.Transport.{Transport}
-use Rattle.of_layers.specs.declared.transport.Transport.TheVariants.{Nothing, Tcp, Udp, Icmpv4, Icmpv6}
-use Rattle.of_layers.specs.Fields.{row_of, number_of, bit_count, ones_of}
-use Rattle.of_layers.specs.Layers.{Item, plain, named, Extension, Layers, next_before, addresses, outer_tag, ether_type, arp, ipv4, ipv6, options, fragment, items_of, cells}
-use Rattle.of_layers.specs.Looking.{look}
-use Rattle.of_layers.specs.Reading.{layers_of}
-use Rattle.of_layers.specs.WellFormed.{AreBytes, IsLayers}
-use Rattle.of_layers.proofs.FrameLemmas.{are_layers}
-use Rattle.of_layers.proofs.Table.{ones_is}
+use Rattle.of_layers.specs.{declared.transport.Transport.Transport, Fields.row_of, Fields.number_of, Fields.bit_count, Fields.ones_of, Looking.look, Reading.layers_of}
+use Rattle.of_layers.{specs.WellFormed.AreBytes, specs.WellFormed.IsLayers, proofs.FrameLemmas.are_layers, proofs.Table.ones_is}
 use Rattle.of_headers.specs.FieldMap.{field_map, vid}
 use Rattle.of_laws.proofs.Widths.{agrees, IsAsWide, layers_within}
 

@@ -1,44 +1,26 @@
 -- Groups that are added in turn.
 use Rattle.std.proofs.Common.{◌≡◌, ℕ, suc, ◌+◌, ◌<◌, ◌≤◌, eqb, Bool, true, false, not, cond, List, [], ◌∷◌, ◌++◌, length, Option, Some, None, refl, sym, ◌∙◌, ap, subst, append_assoc, arith}
 use Rattle.std.specs.Prelude.{◌&&◌, ◌||◌, map, filter, nat_le, nat_lt}
-use Rattle.std.specs.List.{AllByRecursion, list_all, flat_map}
-use Rattle.std.specs.Option.{option_map_or}
-use Rattle.std.proofs.lemmas.Bool.{and_parts, eq-eqb, eqb-true, not-true}
-use Rattle.std.proofs.lemmas.Bool.Decides.{nat_tests}
+use Rattle.std.specs.{List.AllByRecursion, List.list_all, List.flat_map, Option.option_map_or}
+use Rattle.std.proofs.{lemmas.Bool.and_parts, lemmas.Bool.eq-eqb, lemmas.Bool.eqb-true, lemmas.Bool.not-true, lemmas.Bool.Decides.nat_tests}
 use Rattle.std.proofs.lemmas.List.{append-nil, length-append, length-map}
-use Rattle.of_wire.specs.Refusals.{first_of}
-use Rattle.of_wire.proofs.FirstLemmas.{first_false}
+use Rattle.of_wire.{specs.Refusals.first_of, proofs.FirstLemmas.first_false}
 use Rattle.of_actions.specs.Rising.{is_ascending}
-use Rattle.of_groups.specs.declared.bucket.Bucket.{Bucket}
-use Rattle.of_groups.specs.declared.group.Group.{Group}
-use Rattle.of_groups.specs.declared.group_fault.GroupFault.{GroupFault}
-use Rattle.of_groups.specs.Buckets.{any_sends, are_fit, fresh}
 use Rattle.of_groups.specs.Groups.{any_named, any_watches, find_group, is_there, names, new_group, group_number, with_group}
 use Rattle.of_groups.specs.Chains.{AreShort, chain, is_chain, is_long, names_next}
 use Rattle.of_groups.specs.Faults.{add_fault, is_absent, is_bad_watch, is_not_one, naming_fault}
-use Rattle.of_groups.specs.Sound.{is_fit_group}
-use Rattle.of_groups.proofs.ChainLaws.{chain_falls, long_chain}
-use Rattle.of_groups.proofs.ChainLemmas.{there_found}
-use Rattle.of_groups.proofs.NameLemmas.{named_at, named_number}
+use Rattle.of_groups.specs.{declared.bucket.Bucket.Bucket, declared.group.Group.Group, declared.group_fault.GroupFault.GroupFault, Buckets.any_sends, Buckets.are_fit, Buckets.fresh}
+use Rattle.of_groups.{specs.Sound.is_fit_group, proofs.ChainLaws.chain_falls, proofs.ChainLaws.long_chain, proofs.ChainLemmas.there_found, proofs.NameLemmas.named_at, proofs.NameLemmas.named_number}
 use Rattle.of_table.specs.Tables.{Tables}
 use Rattle.of_text.specs.Groups.{TextBucket, TextGroup, bucket_of, buckets_of, group_at, groups_at}
 use Rattle.of_text.proofs.TextLemmas.{all_both}
-use Rattle.of_messages.specs.declared.group_mod.GroupMod.TheVariants.{Add}
-use Rattle.of_messages.specs.declared.message.Message.TheVariants.{GroupMod as IsGroupMod}
 use Rattle.of_messages.specs.CanonicalGroups.{as_written, canonical_buckets, group_add_bytes, group_add_fixed_part, has_numbers}
-use Rattle.of_messages.proofs.BucketsWritten.{buckets_short, length_front}
-use Rattle.of_messages.proofs.GroupAgain.{group_add_again}
-use Rattle.of_build.specs.Building.{chunk_line}
-use Rattle.of_build.specs.Listing.{group_adds, in_turn, new_of, of_length}
-use Rattle.of_switch.specs.declared.event.Event.{Event}
-use Rattle.of_switch.specs.declared.event.Event.TheVariants.{Chunk}
-use Rattle.of_switch.specs.GroupMods.{refused_for}
-use Rattle.of_switch.specs.State.{State}
-use Rattle.of_switch.specs.Runs.{Gives, happened}
-use Rattle.of_laws.proofs.ByteLemmas.{group_add_are_bytes}
-use Rattle.of_laws.proofs.StreamMessages.{built, one_message}
-use Rattle.of_laws.proofs.Chunks.{Leads, handles, leads_first, ready}
+use Rattle.of_messages.specs.{declared.group_mod.GroupMod.TheVariants.Add, declared.message.Message.TheVariants.GroupMod as IsGroupMod}
+use Rattle.of_messages.proofs.{BucketsWritten.buckets_short, BucketsWritten.length_front, GroupAgain.group_add_again}
+use Rattle.of_build.specs.{Building.chunk_line, Listing.group_adds, Listing.in_turn, Listing.new_of, Listing.of_length}
+use Rattle.of_switch.specs.{declared.event.Event.Event, declared.event.Event.TheVariants.Chunk, GroupMods.refused_for, State.State, Runs.Gives, Runs.happened}
 use Rattle.of_laws.proofs.Present.{all_kept, all_present, chain_among, comes_in, find_both, found_in_all, length_kept, next_present, none_as_high, none_present, not_found, not_yet, passed_over, present, rising_parts, shorter_found, stands_between}
+use Rattle.of_laws.proofs.{ByteLemmas.group_add_are_bytes, StreamMessages.built, StreamMessages.one_message, Chunks.Leads, Chunks.handles, Chunks.leads_first, Chunks.ready}
 use Rattle.of_replay.proofs.EventRowsRead.{IsShown, Means, means_chunk}
 
 -- ---- a group that may be sent

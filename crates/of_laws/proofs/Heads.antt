@@ -1,32 +1,17 @@
 -- The header of a message, and its kind by its type.
 use Rattle.std.proofs.Common.{◌≡◌, ◌≤◌, ◌+◌, ℕ, Bool, true, false, not, eqb, ltb, List, ◌++◌, length, drop, Option, Some, None, Result, Ok, Err, refl, sym, ap, ◌∙◌, arith}
-use Rattle.std.specs.Prelude.{◌&&◌, if◌then◌else◌, ◌==◌}
-use Rattle.std.proofs.lemmas.Bool.{le-ltb, eq-eqb, not-false}
+use Rattle.std.{specs.Prelude.◌&&◌, specs.Prelude.if◌then◌else◌, specs.Prelude.◌==◌, proofs.lemmas.Bool.le-ltb, proofs.lemmas.Bool.eq-eqb, proofs.lemmas.Bool.not-false}
 use Rattle.std.proofs.lemmas.Bool.Decides.{nat_tests}
-use Rattle.of_wire.specs.declared.code.Code.{Code}
-use Rattle.of_wire.specs.Refusals.{refusal, first_of}
-use Rattle.of_wire.proofs.FirstLemmas.{none_applies}
-use Rattle.of_messages.specs.declared.message.Message.{Message}
-use Rattle.of_messages.specs.declared.config.SwitchConfig.{SwitchConfig}
-use Rattle.of_messages.specs.declared.config.TableMod.{TableMod}
-use Rattle.of_messages.specs.declared.group_mod.GroupMod.{GroupMod}
-use Rattle.of_messages.specs.declared.message.FlowMod.{FlowMod}
+use Rattle.of_wire.{specs.declared.code.Code.Code, specs.Refusals.refusal, specs.Refusals.first_of, proofs.FirstLemmas.none_applies}
 use Rattle.of_messages.specs.declared.message.Message.TheVariants.{Hello, Error, EchoRequest, EchoReply, FeaturesRequest, GetConfigRequest, SetConfig, PacketOut as IsPacketOut, FlowMod as IsFlowMod, GroupMod as IsGroupMod, PortMod as IsPortMod, TableMod as IsTableMod, Multipart, BarrierRequest, RoleRequest as IsRoleRequest, GetAsyncRequest, SetAsync}
-use Rattle.of_messages.specs.declared.message.PacketOut.{PacketOut}
-use Rattle.of_messages.specs.declared.multipart.MultipartRequest.{MultipartRequest}
-use Rattle.of_messages.specs.declared.port_mod.PortMod.{PortMod}
-use Rattle.of_messages.specs.declared.role.RoleRequest.{RoleRequest}
-use Rattle.of_messages.specs.declared.role.Role.TheVariants as role
-use Rattle.of_formats.specs.Messages.{is_bad_size, message_row}
 use Rattle.of_messages.specs.Heads.{version_of, type_of, header_length, size_by_type, is_supported_type, actions_length, head_refusals, role_refusals}
 use Rattle.of_messages.specs.Messages.{message_body, message_from, message_of, message_by, flow_mod_of, packet_out_of}
-use Rattle.of_messages.specs.AsyncConfigs.{async_masks_of}
-use Rattle.of_messages.specs.Configs.{set_config_of, table_mod_of}
-use Rattle.of_messages.specs.GroupMods.{group_mod_of}
-use Rattle.of_messages.specs.Multiparts.{multipart_of}
-use Rattle.of_messages.specs.PortMods.{port_mod_of}
-use Rattle.of_messages.specs.Roles.{role_request_of}
-use Rattle.of_formats.specs.Reading.{◌>>=◌}
+use Rattle.of_messages.specs.{declared.message.Message.Message, declared.config.SwitchConfig.SwitchConfig, declared.config.TableMod.TableMod, declared.group_mod.GroupMod.GroupMod}
+use Rattle.of_messages.specs.{declared.message.FlowMod.FlowMod, declared.message.PacketOut.PacketOut, declared.multipart.MultipartRequest.MultipartRequest, declared.port_mod.PortMod.PortMod}
+use Rattle.of_messages.specs.{declared.role.RoleRequest.RoleRequest, AsyncConfigs.async_masks_of, Configs.set_config_of, Configs.table_mod_of, GroupMods.group_mod_of, Multiparts.multipart_of}
+use Rattle.of_messages.specs.{PortMods.port_mod_of, Roles.role_request_of}
+use Rattle.of_messages.specs.declared.role.Role.TheVariants as role
+use Rattle.of_formats.specs.{Messages.is_bad_size, Messages.message_row, Reading.◌>>=◌}
 
 -- the kinds of messages that are read
 pub data Kind : Type 0 where

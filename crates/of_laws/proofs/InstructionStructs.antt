@@ -1,38 +1,22 @@
 -- Instructions that are read are their structs, and back.
 use Rattle.std.proofs.Common.{◌≡◌, ℕ, ◌+◌, ◌-◌, ◌%◌, ◌^◌, ◌<◌, ◌≤◌, Bool, true, false, not, eqb, ltb, List, [], ◌∷◌, ◌++◌, length, take, drop, Some, None, refl, sym, ap, subst, ◌∙◌, arith, cond}
-use Rattle.std.specs.Prelude.{◌==◌, ◌&&◌}
-use Rattle.std.specs.List.{list_all}
-use Rattle.std.proofs.lemmas.Bool.{eq-eqb, le-ltb, lt-ltb, not-false}
-use Rattle.std.proofs.lemmas.Bool.Decides.{nat_tests, eqb_tells}
 use Rattle.std.proofs.lemmas.List.{append-nil, append_assoc, length-append, length-drop, length-take-le, take-append-drop, take_at, drop-drop, drop_at}
-use Rattle.std.proofs.lemmas.List.Folds.{list_all-append, list_any-append}
-use Rattle.byteorder.specs.Endian.{big_number}
-use Rattle.byteorder.specs.Numbers.{big_from-lt}
-use Rattle.of_wire.specs.Refusals.{first_of, refusal}
-use Rattle.of_wire.specs.Numbered.{is_distinct, is_used, only}
-use Rattle.of_wire.proofs.FirstLemmas.{none_applies}
-use Rattle.of_wire.proofs.NumberedLemmas.{distinct-push}
-use Rattle.of_wire.proofs.Numbers.{IsBytes, IsBytes-drop, IsBytes-take}
-use Rattle.of_actions.specs.declared.action.Action.{Action}
-use Rattle.of_actions.specs.declared.instruction.Instruction.{Instruction}
+use Rattle.std.{specs.Prelude.◌==◌, specs.Prelude.◌&&◌, specs.List.list_all, proofs.lemmas.Bool.eq-eqb, proofs.lemmas.Bool.le-ltb, proofs.lemmas.Bool.lt-ltb, proofs.lemmas.Bool.not-false}
+use Rattle.std.proofs.{lemmas.Bool.Decides.nat_tests, lemmas.Bool.Decides.eqb_tells, lemmas.List.Folds.list_all-append, lemmas.List.Folds.list_any-append}
+use Rattle.byteorder.specs.{Endian.big_number, Numbers.big_from-lt}
+use Rattle.of_wire.{specs.Refusals.first_of, specs.Refusals.refusal, specs.Numbered.is_distinct, specs.Numbered.is_used, specs.Numbered.only, proofs.FirstLemmas.none_applies}
+use Rattle.of_wire.proofs.{NumberedLemmas.distinct-push, Numbers.IsBytes, Numbers.IsBytes-drop, Numbers.IsBytes-take}
 use Rattle.of_actions.specs.declared.instruction.Instruction.TheVariants.{Apply, Clear, Write, Metadata, Goto}
-use Rattle.of_actions.specs.Actions.{AreActions}
-use Rattle.of_actions.specs.Beginnings.{type_at, len_at}
 use Rattle.of_actions.specs.Headers.{Header, goto, metadata, write, apply, clear, kind_of, is_known, is_size, is_next, goto_table_at, actions_at, header_refusals, header_at, AreHeaders}
 use Rattle.of_actions.specs.InstructionLists.{type_of_instruction, run_place, is_served_body, are_kept, is_for, are_for}
-use Rattle.of_actions.specs.Instructions.{IsInstructionBody, IsFault, AreBodies, EncodesInstructions}
-use Rattle.of_actions.specs.RunOrder.{in_run_order}
-use Rattle.of_actions.specs.Supported.{are_supported, is_supported}
-use Rattle.of_actions.specs.Unread.{leads_on}
-use Rattle.of_actions.proofs.ActionLists.{is_served_list}
-use Rattle.of_actions.proofs.Bodies.{bodies_for, distinct_place, places_once}
-use Rattle.of_actions.proofs.HeaderLists.{kind_is}
-use Rattle.of_actions.proofs.RunOrders.{order_for, order_kept}
-use Rattle.of_laws.specs.ActionStructs.{action_cells, AreStructs}
-use Rattle.of_laws.specs.Cells.{StructCell, u16_cell, pad, Begins}
+use Rattle.of_actions.specs.{declared.action.Action.Action, declared.instruction.Instruction.Instruction, Actions.AreActions, Beginnings.type_at, Beginnings.len_at}
+use Rattle.of_actions.specs.{Instructions.IsInstructionBody, Instructions.IsFault, Instructions.AreBodies, Instructions.EncodesInstructions, RunOrder.in_run_order}
+use Rattle.of_actions.{specs.Supported.are_supported, specs.Supported.is_supported, specs.Unread.leads_on, proofs.ActionLists.is_served_list}
+use Rattle.of_actions.proofs.{Bodies.bodies_for, Bodies.distinct_place, Bodies.places_once, HeaderLists.kind_is, RunOrders.order_for, RunOrders.order_kept}
 use Rattle.of_laws.specs.InstructionStructs.{AreInAnyOrder, AreInstructions, IsInstruction, actions_of_instruction, instruction_cells, instruction_type}
-use Rattle.of_laws.proofs.ActionStructs.{found as actions_found, only as actions_only, passes as action_passes}
 use Rattle.of_laws.proofs.Places.{Says, says, size, rest_is, size_is, front_of}
+use Rattle.of_laws.specs.{ActionStructs.action_cells, ActionStructs.AreStructs, Cells.StructCell, Cells.u16_cell, Cells.pad, Cells.Begins}
+use Rattle.of_laws.proofs.ActionStructs.{found as actions_found, only as actions_only, passes as action_passes}
 
 and_true : (a b : Bool) → a ≡ true → b ≡ true → (a && b) ≡ true
 and_true a b p q = rw (p, q) refl

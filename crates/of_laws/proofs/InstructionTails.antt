@@ -1,22 +1,13 @@
 -- Instructions that were computed from bytes are those that the bytes encode.
 use Rattle.std.proofs.Common.{◌≡◌, ℕ, true, false, ltb, List, [], ◌∷◌, length, None, Result, Ok, Err, refl, sym, subst, arith}
-use Rattle.std.specs.Prelude.{IsSome}
-use Rattle.std.proofs.lemmas.Bool.{ltb-false, not-false}
-use Rattle.std.proofs.lemmas.Bool.Decides.{nat_tests}
-use Rattle.of_wire.specs.declared.code.Code.{Code}
-use Rattle.of_wire.specs.Items.{TakesBytes, items_from}
-use Rattle.of_wire.proofs.FirstLemmas.{none_applies, first_false}
-use Rattle.of_actions.specs.declared.action.Action.{Action}
-use Rattle.of_actions.specs.declared.instruction.Instruction.{Instruction}
+use Rattle.std.{specs.Prelude.IsSome, proofs.lemmas.Bool.ltb-false, proofs.lemmas.Bool.not-false, proofs.lemmas.Bool.Decides.nat_tests}
+use Rattle.of_wire.{specs.declared.code.Code.Code, specs.Items.TakesBytes, specs.Items.items_from, proofs.FirstLemmas.none_applies, proofs.FirstLemmas.first_false}
 use Rattle.of_actions.specs.declared.instruction.Instruction.TheVariants.{Apply, Clear, Write, Metadata, Goto}
-use Rattle.of_actions.specs.Actions.{actions_said}
-use Rattle.of_actions.specs.Beginnings.{type_at, len_at}
 use Rattle.of_actions.specs.Headers.{Header, goto, metadata, write, apply, clear, is_known, headers_of, header_refusals, header_at}
-use Rattle.of_actions.specs.Instructions.{HasActions, IsInstructionBody, AreBodies, EncodesInstructions}
 use Rattle.of_actions.specs.InstructionReading.{with_actions_read, instruction_of_header, instruction_prepended, bodies_of, then_bodies, then_ordered, instructions_in_bytes}
-use Rattle.of_actions.specs.RunOrder.{in_run_order}
-use Rattle.of_laws.proofs.Items.{HasValues, are_items}
-use Rattle.of_laws.proofs.ActionTails.{actions_found}
+use Rattle.of_actions.specs.{declared.action.Action.Action, declared.instruction.Instruction.Instruction, Actions.actions_said, Beginnings.type_at, Beginnings.len_at}
+use Rattle.of_actions.specs.{Instructions.HasActions, Instructions.IsInstructionBody, Instructions.AreBodies, Instructions.EncodesInstructions, RunOrder.in_run_order}
+use Rattle.of_laws.proofs.{Items.HasValues, Items.are_items, ActionTails.actions_found}
 
 headers_take : (table : ℕ) → TakesBytes (headers_of table)
 unfolding header_refusals

@@ -1,10 +1,8 @@
 -- A walk over items that was computed is a walk.
 use Rattle.std.proofs.Common.{◌≡◌, ◌<◌, ◌≤◌, ℕ, zero, suc, true, false, List, [], ◌∷◌, ◌++◌, length, drop, Option, Some, None, Result, Ok, refl, sym, subst, ◌∙◌, arith}
-use Rattle.std.specs.Prelude.{IsSome}
-use Rattle.std.proofs.lemmas.List.{append_assoc, append-nil, length-drop}
-use Rattle.of_wire.specs.declared.code.Code.{Code}
-use Rattle.of_wire.specs.Refusals.{first_of}
+use Rattle.std.{specs.Prelude.IsSome, proofs.lemmas.List.append_assoc, proofs.lemmas.List.append-nil, proofs.lemmas.List.length-drop}
 use Rattle.of_wire.specs.Items.{Items, AreItems, TakesBytes, item_then, items_from}
+use Rattle.of_wire.specs.{declared.code.Code.Code, Refusals.first_of}
 
 -- an item that is not refused stands for a value
 abbrev pub HasValues : {V : Type 0} → Items V → Type 0

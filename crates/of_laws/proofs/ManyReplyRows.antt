@@ -2,10 +2,8 @@
 use Rattle.std.proofs.Common.{◌≡◌, ◌≤◌, ℕ, ◌+◌, Bool, true, false, List, [], ◌∷◌, ◌++◌, length, map, refl, sym, ap, subst, ◌∙◌, arith}
 use Rattle.std.specs.List.{All, concat, flat_map, AllByRecursion as ByRecursion}
 use Rattle.std.proofs.lemmas.List.Elements.{recursion_from_All, All-from_recursion}
-use Rattle.of_statistics.specs.Replies.{AreReplies, most, reply, replies}
-use Rattle.of_statistics.proofs.Cutting.{cut, fit}
-use Rattle.of_laws.specs.Replied.{Reply, EncodeAll, EncodesReply, flags}
-use Rattle.of_laws.specs.ReplyRows.{AreReplyRows}
+use Rattle.of_statistics.{specs.Replies.AreReplies, specs.Replies.most, specs.Replies.reply, specs.Replies.replies, proofs.Cutting.cut, proofs.Cutting.fit}
+use Rattle.of_laws.specs.{Replied.Reply, Replied.EncodeAll, Replied.EncodesReply, Replied.flags, ReplyRows.AreReplyRows}
 
 -- ---- rows that are written
 

@@ -1,28 +1,17 @@
 -- A match that was computed from bytes is the one that they begin with, and back.
 use Rattle.std.proofs.Common.{◌≡◌, ℕ, ◌+◌, ◌-◌, ◌≤◌, Bool, true, false, ltb, cond, List, [], ◌∷◌, ◌++◌, length, get_or, take, drop, Option, Some, None, Result, Ok, Err, refl, sym, ap, subst, ◌∙◌, arith, ◌<◌, ◌^◌}
-use Rattle.std.specs.Prelude.{◌||◌, IsSome}
-use Rattle.std.specs.Option.{option_map, option_map_or}
-use Rattle.std.proofs.lemmas.Bool.{le-ltb}
+use Rattle.std.{specs.Prelude.◌||◌, specs.Prelude.IsSome, specs.Option.option_map, specs.Option.option_map_or, proofs.lemmas.Bool.le-ltb}
 use Rattle.std.proofs.lemmas.List.{append_assoc, append-nil, length-append, take_at}
-use Rattle.byteorder.specs.Endian.{big_number, big_bytes}
-use Rattle.byteorder.specs.Numbers.{big_number-reads_back}
-use Rattle.of_wire.specs.declared.code.Code.{Code}
-use Rattle.of_wire.specs.Refusals.{first_of}
-use Rattle.of_wire.specs.Items.{AreItems, TakesBytes, items_from}
+use Rattle.byteorder.specs.{Endian.big_number, Endian.big_bytes, Numbers.big_number-reads_back}
+use Rattle.of_wire.specs.{declared.code.Code.Code, Refusals.first_of, Items.AreItems, Items.TakesBytes, Items.items_from}
 use Rattle.of_wire.proofs.Numbers.{IsBytes, IsBytes-drop, IsBytes-take}
-use Rattle.of_layers.specs.declared.field.Field.{Field}
-use Rattle.of_layers.specs.Fields.{field_at}
-use Rattle.of_oxm.specs.declared.match_field.MatchField.{MatchField}
+use Rattle.of_layers.specs.{declared.field.Field.Field, Fields.field_at}
 use Rattle.of_oxm.specs.MatchFieldWire.{encoding, number_at, match_field_of, field_refusals, known_field_refusals}
 use Rattle.of_oxm.specs.MatchGrammar.{encodings, AreFieldsAfter, Fields, match_len, padded, match_body, match_head_refusals, EncodesMatch}
-use Rattle.of_oxm.specs.MatchReading.{match_fields, then_normal, match_by, match_of}
-use Rattle.of_oxm.specs.NormalForm.{normal}
-use Rattle.of_oxm.specs.Prerequisites.{prerequisites_met}
-use Rattle.of_oxm.proofs.Computed.{found_computed}
-use Rattle.of_oxm.proofs.MatchFieldLemmas.{NoneApplies, none_first, IsRead, field_takes}
-use Rattle.of_oxm.proofs.Whole.{whole_encoded}
-use Rattle.of_laws.proofs.ActionTails.{behind_none}
-use Rattle.of_laws.proofs.Items.{HasValues, are_items}
+use Rattle.of_oxm.specs.{declared.match_field.MatchField.MatchField, MatchReading.match_fields, MatchReading.then_normal, MatchReading.match_by, MatchReading.match_of, NormalForm.normal}
+use Rattle.of_oxm.{specs.Prerequisites.prerequisites_met, proofs.Computed.found_computed}
+use Rattle.of_oxm.proofs.{MatchFieldLemmas.NoneApplies, MatchFieldLemmas.none_first, MatchFieldLemmas.IsRead, MatchFieldLemmas.field_takes, Whole.whole_encoded}
+use Rattle.of_laws.proofs.{ActionTails.behind_none, Items.HasValues, Items.are_items}
 
 -- ---- from bytes to a match
 

@@ -1,13 +1,10 @@
 -- No bytes encode two messages of a controller; and bytes whose header has their length begin no others.
 use Rattle.std.proofs.Common.{◌≡◌, ◌≤◌, ℕ, List, [], ◌∷◌, ◌++◌, length, drop, Result, Ok, refl, sym, ap, ◌∙◌, arith}
 use Rattle.std.proofs.lemmas.List.{length-append, length-drop, drop-append-le}
-use Rattle.byteorder.specs.Endian.{big_number}
-use Rattle.byteorder.specs.Numbers.{big_from-append}
+use Rattle.byteorder.specs.{Endian.big_number, Numbers.big_from-append}
 use Rattle.of_wire.specs.declared.code.Code.{Code}
-use Rattle.of_messages.specs.declared.message.Message.{Message}
-use Rattle.of_messages.specs.Heads.{header_length}
-use Rattle.of_laws.specs.Grammar.{Encodes}
-use Rattle.of_laws.proofs.Only.{only, xid_is}
+use Rattle.of_messages.specs.{declared.message.Message.Message, Heads.header_length}
+use Rattle.of_laws.{specs.Grammar.Encodes, proofs.Only.only, proofs.Only.xid_is}
 
 pub one_message : (x y : ℕ) (v w : Message) (bytes : List ℕ) → Encodes x v bytes → Encodes y w bytes → (x ≡ y) × (v ≡ w)
 one_message x y v w bytes s t =

@@ -1,11 +1,11 @@
 -- No bytes encode two replies: type and flags are in their places, and after the fields no bytes are two lists of rows.
 use Rattle.std.proofs.Common.{◌≡◌, ℕ, ◌+◌, Bool, true, false, List, length, drop, refl, sym, ap, subst, ◌∙◌, arith}
 use Rattle.byteorder.specs.Endian.{big_number}
-use Rattle.of_laws.proofs.OneReplyGroup.{group_one, group_some, described_one as described_group_one, described_some as described_group_some}
 use Rattle.of_laws.proofs.OneReplyRow.{IsOne, HasBytes, rows_one, flow_one, flow_some, table_one, table_some, port_one, port_some, described_one, described_some}
-use Rattle.of_laws.proofs.Places.{Says, says, size, rest_is}
 use Rattle.of_laws.specs.Replied.{Reply, EncodesReply, ReplyTail, aggregate, described_groups, described_ports, description, flags, flows, group_features, groups, ports, reply_cells, reply_fixed_part, reply_type, tables}
 use Rattle.of_laws.specs.ReplyRows.{AggregateStats, AreReplyRows, IsDescribed, IsDescribedPort, IsFlow, IsGroupRow, IsPort, IsTable}
+use Rattle.of_laws.proofs.OneReplyGroup.{group_one, group_some, described_one as described_group_one, described_some as described_group_some}
+use Rattle.of_laws.proofs.Places.{Says, says, size, rest_is}
 
 -- what is where: after the fields, which say what they say, comes the rest
 record Laid (r : Reply) (m tail : List ℕ) : Type 0 where

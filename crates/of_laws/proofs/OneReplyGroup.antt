@@ -1,22 +1,15 @@
 -- No bytes begin with two rows of groups, of what they count or of what they are.
 use Rattle.std.proofs.Common.{◌≡◌, ℕ, ◌+◌, ◌-◌, ◌*◌, false, List, [], ◌∷◌, ◌++◌, length, take, drop, None, Result, Ok, Err, refl, sym, ap, subst, ◌∙◌, arith}
-use Rattle.std.specs.Prelude.{slice_index, ◌==◌, if◌then◌else◌}
-use Rattle.std.proofs.lemmas.List.{take_at, drop_at}
+use Rattle.std.{specs.Prelude.slice_index, specs.Prelude.◌==◌, specs.Prelude.if◌then◌else◌, proofs.lemmas.List.take_at, proofs.lemmas.List.drop_at}
 use Rattle.byteorder.specs.Endian.{big_number}
 use Rattle.of_wire.specs.declared.code.Code.{Code}
-use Rattle.of_actions.specs.declared.action.Action.{Action}
-use Rattle.of_actions.specs.Actions.{actions_said}
-use Rattle.of_actions.proofs.ActionsComputed.{actions_are}
-use Rattle.of_groups.specs.declared.bucket.Bucket.{Bucket}
-use Rattle.of_groups.specs.declared.group.GroupKind.{GroupKind}
-use Rattle.of_groups.specs.declared.group.GroupKind.TheVariants.{All, Indirect, FastFailover}
-use Rattle.of_groups.specs.Groups.{kind_number}
+use Rattle.of_actions.{specs.declared.action.Action.Action, specs.Actions.actions_said, proofs.ActionsComputed.actions_are}
+use Rattle.of_groups.specs.{declared.bucket.Bucket.Bucket, declared.group.GroupKind.GroupKind}
+use Rattle.of_groups.specs.{declared.group.GroupKind.TheVariants.All, declared.group.GroupKind.TheVariants.Indirect, declared.group.GroupKind.TheVariants.FastFailover, Groups.kind_number}
 use Rattle.of_messages.specs.declared.group_mod.NewGroup.{NewGroup}
-use Rattle.of_laws.specs.Buckets.{AreBuckets, BeginsWithBucket, bucket_cells}
-use Rattle.of_laws.specs.Cells.{Begins, StructCell, u16_cell}
-use Rattle.of_laws.proofs.OneReplyRow.{HasBytes, IsOne, rows_one}
-use Rattle.of_laws.proofs.Places.{says, rest_is, size_is}
 use Rattle.of_laws.specs.ReplyRows.{AreReplyRows, BucketStats, GroupStats, IsGroupRow, bucket_stats_cells, group_stats_cells, IsDescribed, group_description_cells}
+use Rattle.of_laws.specs.{Buckets.AreBuckets, Buckets.BeginsWithBucket, Buckets.bucket_cells, Cells.Begins, Cells.StructCell, Cells.u16_cell}
+use Rattle.of_laws.proofs.{OneReplyRow.HasBytes, OneReplyRow.IsOne, OneReplyRow.rows_one, Places.says, Places.rest_is, Places.size_is}
 
 -- what the same bytes begin with, and has the same length, is the same
 parted : (a b x y : List ℕ) (n : ℕ) → a ++ x ≡ b ++ y → length a ≡ n → length b ≡ n → (a ≡ b) × (x ≡ y)

@@ -1,24 +1,15 @@
 -- No bytes begin with two rows, of entries, of tables or of ports; and so no bytes are two lists of rows.
 use Rattle.std.proofs.Common.{◌≡◌, ◌<◌, ℕ, ◌+◌, ◌-◌, List, [], ◌∷◌, ◌++◌, length, take, drop, Result, Ok, Err, refl, sym, ap, subst, ◌∙◌, arith}
-use Rattle.std.specs.Prelude.{slice_index}
-use Rattle.std.proofs.lemmas.List.{append_assoc, length-append, take_at, drop_at}
+use Rattle.std.{specs.Prelude.slice_index, proofs.lemmas.List.append_assoc, proofs.lemmas.List.length-append, proofs.lemmas.List.take_at, proofs.lemmas.List.drop_at}
 use Rattle.byteorder.specs.Endian.{big_number}
 use Rattle.of_wire.specs.declared.code.Code.{Code}
-use Rattle.of_oxm.specs.declared.match_field.MatchField.{MatchField}
-use Rattle.of_oxm.specs.MatchGrammar.{EncodesMatch}
-use Rattle.of_oxm.specs.MatchReading.{match_of}
-use Rattle.of_actions.specs.declared.instruction.Instruction.{Instruction}
-use Rattle.of_actions.specs.InstructionReading.{instructions_in_bytes}
-use Rattle.of_actions.specs.Instructions.{EncodesInstructions}
-use Rattle.of_actions.proofs.Computed.{is_computed}
+use Rattle.of_oxm.specs.{declared.match_field.MatchField.MatchField, MatchGrammar.EncodesMatch, MatchReading.match_of}
+use Rattle.of_actions.{specs.declared.instruction.Instruction.Instruction, specs.InstructionReading.instructions_in_bytes, specs.Instructions.EncodesInstructions, proofs.Computed.is_computed}
 use Rattle.of_messages.specs.declared.port_mod.PortDescription.{PortDescription}
 use Rattle.of_ports.specs.declared.counters.PortCounters.{PortCounters}
-use Rattle.of_laws.specs.Cells.{StructCell, u16_cell}
-use Rattle.of_laws.specs.Told.{port_cells}
-use Rattle.of_laws.proofs.MatchTails.{fields_in, match_only, size_in}
-use Rattle.of_laws.proofs.Places.{says, size, rest_is, size_is}
 use Rattle.of_laws.specs.ReplyRows.{AreReplyRows, FlowStats, IsFlow, flow_cells, TableStats, IsTable, table_cells, PortStats, IsPort, port_stats_cells, IsDescribedPort}
-use Rattle.of_laws.proofs.OneTold.{same_description}
+use Rattle.of_laws.{specs.Cells.StructCell, specs.Cells.u16_cell, specs.Told.port_cells, proofs.MatchTails.fields_in, proofs.MatchTails.match_only, proofs.MatchTails.size_in}
+use Rattle.of_laws.proofs.{Places.says, Places.size, Places.rest_is, Places.size_is, OneTold.same_description}
 
 -- ---- rows of one kind
 

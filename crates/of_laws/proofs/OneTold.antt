@@ -1,32 +1,19 @@
 -- No bytes encode two messages of a switch: what is sent can be read from its places.
 use Rattle.std.proofs.Common.{◌≡◌, ℕ, ◌+◌, Bool, true, false, eqb, cond, List, [], ◌∷◌, ◌++◌, length, take, drop, None, Ok, refl, sym, ap, ◌∙◌, arith}
-use Rattle.std.specs.Prelude.{slice_index, ◌==◌, if◌then◌else◌}
-use Rattle.std.proofs.lemmas.Bool.{eqb-true}
-use Rattle.std.proofs.lemmas.List.{append-nil, drop_at}
+use Rattle.std.{specs.Prelude.slice_index, specs.Prelude.◌==◌, specs.Prelude.if◌then◌else◌, proofs.lemmas.Bool.eqb-true, proofs.lemmas.List.append-nil, proofs.lemmas.List.drop_at}
 use Rattle.byteorder.specs.Endian.{big_number}
-use Rattle.of_wire.specs.declared.code.Code.{Code}
-use Rattle.of_layers.specs.declared.field.Field.TheVariants.{Metadata}
-use Rattle.of_oxm.specs.declared.match_field.MatchField.{MatchField}
-use Rattle.of_oxm.specs.MatchGrammar.{EncodesMatch}
-use Rattle.of_oxm.specs.MatchReading.{match_of}
-use Rattle.of_messages.specs.AsyncConfigs.{async_masks_of}
-use Rattle.of_messages.specs.Heads.{type_of, xid_of}
-use Rattle.of_messages.specs.declared.message.FlowRemoved.{FlowRemoved}
-use Rattle.of_wire.specs.declared.reasons.FlowRemovedReason.{FlowRemovedReason}
-use Rattle.of_wire.specs.declared.reasons.FlowRemovedReason.TheVariants as removed
-use Rattle.of_messages.specs.declared.message.PacketIn.{PacketIn}
-use Rattle.of_wire.specs.declared.reasons.PacketInReason.{PacketInReason}
+use Rattle.of_wire.specs.{declared.code.Code.Code, declared.reasons.FlowRemovedReason.FlowRemovedReason, declared.reasons.PacketInReason.PacketInReason}
 use Rattle.of_wire.specs.declared.reasons.PacketInReason.TheVariants.{NoMatch, Action, InvalidTtl}
-use Rattle.of_messages.specs.declared.port_mod.PortDescription.{PortDescription}
-use Rattle.of_messages.specs.declared.port_mod.PortStatusReason.{PortStatusReason}
-use Rattle.of_messages.specs.declared.port_mod.PortStatusReason.TheVariants as status
-use Rattle.of_messages.specs.declared.role.Role.{Role}
-use Rattle.of_messages.specs.declared.role.Role.TheVariants as role
 use Rattle.of_wire.specs.Reasons.{packet_in_number, flow_removed_number}
-use Rattle.of_laws.specs.Cells.{pad}
+use Rattle.of_layers.specs.declared.field.Field.TheVariants.{Metadata}
+use Rattle.of_oxm.specs.{declared.match_field.MatchField.MatchField, MatchGrammar.EncodesMatch, MatchReading.match_of}
+use Rattle.of_messages.specs.{AsyncConfigs.async_masks_of, Heads.type_of, Heads.xid_of, declared.message.FlowRemoved.FlowRemoved, declared.message.PacketIn.PacketIn}
+use Rattle.of_messages.specs.{declared.port_mod.PortDescription.PortDescription, declared.port_mod.PortStatusReason.PortStatusReason, declared.role.Role.Role}
+use Rattle.of_wire.specs.declared.reasons.FlowRemovedReason.TheVariants as removed
+use Rattle.of_messages.specs.declared.port_mod.PortStatusReason.TheVariants as status
+use Rattle.of_messages.specs.declared.role.Role.TheVariants as role
 use Rattle.of_laws.specs.Told.{Told, hello, error, echo_reply, features_reply, config_reply, packet_in, flow_removed, port_status, barrier_reply, role_reply, async_reply, switch_message_type, told_cells, switch_message_fixed_part, told_fields, MatchThenData, ToldTail, EncodesSwitchMessage, port_reason, role_value}
-use Rattle.of_laws.proofs.MatchTails.{fields_in, match_only, size_in}
-use Rattle.of_laws.proofs.OnlySmall.{async_only}
+use Rattle.of_laws.{specs.Cells.pad, proofs.MatchTails.fields_in, proofs.MatchTails.match_only, proofs.MatchTails.size_in, proofs.OnlySmall.async_only}
 use Rattle.of_laws.proofs.Places.{Says, says, size, rest_is}
 
 -- ---- what is in the places

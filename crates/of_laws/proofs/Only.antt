@@ -1,19 +1,14 @@
 -- What encodes a message is read as that message.
 use Rattle.std.proofs.Common.{◌≡◌, ◌≤◌, ◌+◌, ℕ, false, not, eqb, List, [], length, drop, Ok, refl, sym, ap, ◌∙◌, arith}
-use Rattle.std.proofs.lemmas.Bool.{le-ltb, eq-eqb, and_right}
-use Rattle.std.proofs.lemmas.List.{length-append}
-use Rattle.of_messages.specs.declared.message.Message.{Message}
+use Rattle.std.proofs.{lemmas.Bool.le-ltb, lemmas.Bool.eq-eqb, lemmas.Bool.and_right, lemmas.List.length-append}
 use Rattle.of_messages.specs.declared.message.Message.TheVariants.{Hello, Error, EchoRequest, EchoReply, FeaturesRequest, GetConfigRequest, SetConfig, PacketOut as IsPacketOut, FlowMod as IsFlowMod, GroupMod as IsGroupMod, PortMod as IsPortMod, TableMod as IsTableMod, Multipart, BarrierRequest, RoleRequest as IsRoleRequest, GetAsyncRequest, SetAsync}
-use Rattle.of_messages.specs.declared.message.FlowMod.{FlowMod}
-use Rattle.of_messages.specs.Heads.{version_of, type_of, header_length, xid_of}
-use Rattle.of_messages.specs.Messages.{message_of}
+use Rattle.of_messages.specs.{declared.message.Message.Message, declared.message.FlowMod.FlowMod, Heads.version_of, Heads.type_of, Heads.header_length, Heads.xid_of, Messages.message_of}
 use Rattle.of_laws.specs.Grammar.{MatchThenInstructions, fixed_part_cells, IsValid, Encodes, Tail}
-use Rattle.of_laws.specs.Requests.{request_cells}
 use Rattle.of_laws.proofs.Heads.{Kind, hello, error, echo_request, echo_reply, features_request, get_config_request, set_config, packet_out, flow_mod, group_mod, port_mod, table_mod, multipart, barrier_request, role_request, get_async_request, set_async, type_number, is_bad, is_short, needs_version, body_by, as_flow_mod, as_packet_out, as_group_mod, as_port_mod, as_table_mod, as_set_config, as_role_request, as_multipart, said_by}
 use Rattle.of_laws.proofs.OnlyLarge.{group_size, tailed, packet_out_only, flow_mod_only, group_mod_only}
-use Rattle.of_laws.proofs.OnlyRequests.{request_only}
 use Rattle.of_laws.proofs.OnlySmall.{async_only, config_only, port_mod_only, role_only, role_size, table_mod_only}
 use Rattle.of_laws.proofs.Places.{Says, size, says, rest_is, size_is}
+use Rattle.of_laws.{specs.Requests.request_cells, proofs.OnlyRequests.request_only}
 
 -- a message of version 4, whose size its kind may have
 pub of_kind : (k : Kind) (m : List ℕ) → 8 ≤ length m → version_of m ≡ 4 → type_of m ≡ type_number k → header_length m ≡ length m → is_bad k (length m) ≡ false → is_short k m ≡ false → message_of m ≡ body_by k m

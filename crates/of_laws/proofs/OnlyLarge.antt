@@ -1,44 +1,26 @@
 -- What is in the places of a PACKET_OUT, a FLOW_MOD or a GROUP_MOD, and after them, it says.
 use Rattle.std.proofs.Common.{◌≡◌, ◌≤◌, ◌<◌, ◌+◌, ◌-◌, ℕ, true, false, not, eqb, ltb, cond, List, [], ◌∷◌, ◌++◌, length, take, drop, Option, Some, None, Result, Ok, Err, refl, sym, ap, subst, ◌∙◌, arith, inl, inr}
-use Rattle.std.specs.Prelude.{slice_index, ◌&&◌, is_none}
-use Rattle.std.proofs.lemmas.Bool.{le-ltb}
-use Rattle.std.proofs.lemmas.Bool.Decides.{nat_tests}
 use Rattle.std.proofs.lemmas.List.{length-append, length-drop, drop-drop, take_at, drop_at}
-use Rattle.of_wire.specs.declared.limits.TheConstants.{OFPG_ALL}
+use Rattle.std.{specs.Prelude.slice_index, specs.Prelude.◌&&◌, specs.Prelude.is_none, proofs.lemmas.Bool.le-ltb, proofs.lemmas.Bool.Decides.nat_tests}
+use Rattle.of_wire.specs.{declared.limits.TheConstants.OFPG_ALL, declared.code.Code.Code, Refusals.refusal}
 use Rattle.byteorder.specs.Endian.{big_number}
-use Rattle.of_wire.specs.declared.code.Code.{Code}
-use Rattle.of_wire.specs.Refusals.{refusal}
 use Rattle.of_headers.specs.Faults.{frame_fault}
 use Rattle.of_oxm.specs.MatchReading.{match_of}
-use Rattle.of_actions.specs.Actions.{actions_said}
-use Rattle.of_actions.proofs.ActionsComputed.{actions_are}
-use Rattle.of_actions.proofs.Computed.{is_computed}
+use Rattle.of_actions.{specs.Actions.actions_said, proofs.ActionsComputed.actions_are, proofs.Computed.is_computed}
 use Rattle.of_groups.specs.declared.group.GroupKind.{GroupKind}
-use Rattle.of_groups.specs.declared.group.GroupKind.TheVariants.{All, Indirect, FastFailover}
-use Rattle.of_groups.specs.Groups.{kind_number}
-use Rattle.of_messages.specs.declared.group_mod.GroupMod.{GroupMod}
-use Rattle.of_messages.specs.declared.group_mod.GroupMod.TheVariants as group
-use Rattle.of_messages.specs.declared.group_mod.NewGroup.{NewGroup}
-use Rattle.of_messages.specs.declared.message.FlowMod.{FlowMod}
-use Rattle.of_messages.specs.declared.message.FlowModCommand.{FlowModCommand}
-use Rattle.of_messages.specs.declared.message.FlowModCommand.TheVariants.{Add, Modify, Delete}
-use Rattle.of_messages.specs.declared.message.PacketData.{PacketData}
-use Rattle.of_messages.specs.declared.message.PacketData.TheVariants.{Buffered, Frame}
-use Rattle.of_messages.specs.declared.message.PacketOut.{PacketOut}
-use Rattle.of_messages.specs.Buckets.{buckets_said}
+use Rattle.of_groups.specs.{declared.group.GroupKind.TheVariants.All, declared.group.GroupKind.TheVariants.Indirect, declared.group.GroupKind.TheVariants.FastFailover, Groups.kind_number}
 use Rattle.of_messages.specs.GroupMods.{command_of_group_mod as group_command_of, is_above, group_kind_of, group_of, delete_of, group_mod_of}
-use Rattle.of_messages.specs.Heads.{actions_length}
 use Rattle.of_messages.specs.Messages.{command_of, command_said, is_bad_table, instructions_for, flow_mod_by, flow_mod_of, is_ingress, packet_in_data, packet_out_by, packet_out_of}
-use Rattle.of_messages.specs.Written.{command_number, flow_mod_numbers}
-use Rattle.of_formats.specs.Reading.{◌>>=◌}
-use Rattle.of_formats.specs.Structs.{numbers}
+use Rattle.of_messages.specs.{declared.group_mod.GroupMod.GroupMod, declared.group_mod.NewGroup.NewGroup, declared.message.FlowMod.FlowMod, declared.message.FlowModCommand.FlowModCommand}
+use Rattle.of_messages.specs.declared.message.FlowModCommand.TheVariants.{Add, Modify, Delete}
+use Rattle.of_messages.specs.{declared.message.PacketData.PacketData, declared.message.PacketData.TheVariants.Buffered, declared.message.PacketData.TheVariants.Frame}
+use Rattle.of_messages.specs.{declared.message.PacketOut.PacketOut, Buckets.buckets_said, Heads.actions_length, Written.command_number, Written.flow_mod_numbers}
+use Rattle.of_messages.specs.declared.group_mod.GroupMod.TheVariants as group
+use Rattle.of_formats.specs.{Reading.◌>>=◌, Structs.numbers}
 use Rattle.of_formats.specs.Tables as tables
-use Rattle.of_laws.specs.Cells.{StructCell, u16_cell, pad}
 use Rattle.of_laws.specs.Grammar.{IsData, IsValidData, IsIngress, IsValidPacketOut, ActionsThenData, buffer_of, flow_mod_cells, deletes, HasInstructions, MatchThenInstructions, MayName, IsValidFlowMod, group_cells, group_mod_cells, GroupTail, IsValidNumber, IsValidGroupMod}
-use Rattle.of_laws.specs.Requests.{NamesTable, or_all}
-use Rattle.of_laws.proofs.BucketTails.{buckets_only}
-use Rattle.of_laws.proofs.MatchTails.{match_only}
 use Rattle.of_laws.proofs.Places.{Says, says, size, rest_is, size_is}
+use Rattle.of_laws.{specs.Cells.StructCell, specs.Cells.u16_cell, specs.Cells.pad, specs.Requests.NamesTable, specs.Requests.or_all, proofs.BucketTails.buckets_only, proofs.MatchTails.match_only}
 
 -- ---- PACKET_OUT
 

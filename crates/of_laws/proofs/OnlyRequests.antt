@@ -1,24 +1,16 @@
 -- What is in the places of a MULTIPART_REQUEST, and after them, it says.
 use Rattle.std.proofs.Common.{◌≡◌, ◌≤◌, ◌+◌, ◌%◌, ℕ, true, false, eqb, ltb, List, [], ◌∷◌, ◌++◌, length, drop, Option, Some, None, Result, Ok, refl, sym, ap, ◌∙◌, arith}
-use Rattle.std.proofs.lemmas.Bool.{le-ltb, eq-eqb}
-use Rattle.std.proofs.lemmas.Bool.Decides.{nat_tests}
-use Rattle.std.proofs.lemmas.List.{length-append}
-use Rattle.of_wire.specs.declared.limits.TheConstants.{OFPG_ALL, OFPP_ANY}
+use Rattle.std.proofs.{lemmas.Bool.le-ltb, lemmas.Bool.eq-eqb, lemmas.Bool.Decides.nat_tests, lemmas.List.length-append}
+use Rattle.of_wire.specs.{declared.limits.TheConstants.OFPG_ALL, declared.limits.TheConstants.OFPP_ANY, declared.code.Code.Code}
 use Rattle.byteorder.specs.Endian.{big_number}
-use Rattle.of_wire.specs.declared.code.Code.{Code}
-use Rattle.of_oxm.specs.declared.match_field.MatchField.{MatchField}
-use Rattle.of_oxm.specs.MatchReading.{match_of}
-use Rattle.of_messages.specs.declared.multipart.FlowStatsRequest.{FlowStatsRequest}
-use Rattle.of_messages.specs.declared.multipart.MultipartRequest.{MultipartRequest}
+use Rattle.of_oxm.specs.{declared.match_field.MatchField.MatchField, MatchReading.match_of}
 use Rattle.of_messages.specs.declared.multipart.MultipartRequest.TheVariants.{Description, Flow, Aggregate, Table, PortStats, Group, GroupDescription, GroupFeatures, PortDescription}
 use Rattle.of_messages.specs.Multiparts.{multipart_kind_of, flow_stats_by, flow_stats_of, one_or_all, requested_number, multipart_of}
-use Rattle.of_formats.specs.Reading.{◌>>=◌}
-use Rattle.of_formats.specs.Structs.{numbers}
+use Rattle.of_messages.specs.{declared.multipart.FlowStatsRequest.FlowStatsRequest, declared.multipart.MultipartRequest.MultipartRequest}
+use Rattle.of_formats.specs.{Reading.◌>>=◌, Structs.numbers}
 use Rattle.of_formats.specs.Tables as tables
 use Rattle.of_laws.specs.Requests.{BeginsMatch, IsOne, IsValidRequest, NamesTable, RequestTail, flows_cells, or_all, request_cells}
-use Rattle.of_laws.proofs.MatchTails.{match_only}
-use Rattle.of_laws.proofs.OnlySmall.{table_named}
-use Rattle.of_laws.proofs.Places.{Says, size}
+use Rattle.of_laws.proofs.{MatchTails.match_only, OnlySmall.table_named, Places.Says, Places.size}
 
 -- ---- by the type of the request
 

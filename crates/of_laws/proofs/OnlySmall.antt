@@ -1,27 +1,16 @@
 -- What is in the places of a small message, it says.
 use Rattle.std.proofs.Common.{◌≡◌, ◌≤◌, ℕ, Bool, true, eqb, cond, List, [], ◌∷◌, length, take, drop, Option, Some, Ok, Err, refl, sym, ap, ◌∙◌, arith, inl, inr}
-use Rattle.std.specs.Prelude.{bit_and}
-use Rattle.std.proofs.lemmas.Bool.{eq-eqb}
-use Rattle.std.proofs.lemmas.Bool.Decides.{nat_tests}
+use Rattle.std.{specs.Prelude.bit_and, proofs.lemmas.Bool.eq-eqb, proofs.lemmas.Bool.Decides.nat_tests}
 use Rattle.byteorder.specs.Endian.{big_number}
 use Rattle.of_wire.specs.Refusals.{refusal}
-use Rattle.of_messages.specs.declared.async_masks.AsyncMasks.{AsyncMasks}
-use Rattle.of_messages.specs.declared.config.SwitchConfig.{SwitchConfig}
-use Rattle.of_messages.specs.declared.config.TableMod.{TableMod}
-use Rattle.of_messages.specs.declared.port_mod.PortMod.{PortMod}
+use Rattle.of_messages.specs.{declared.async_masks.AsyncMasks.AsyncMasks, declared.config.SwitchConfig.SwitchConfig, declared.config.TableMod.TableMod, declared.port_mod.PortMod.PortMod}
 use Rattle.of_messages.specs.declared.role.RoleRequest.{RoleRequest}
 use Rattle.of_messages.specs.declared.role.RoleRequest.TheVariants.{NoChange, Equal, Master, Slave}
-use Rattle.of_messages.specs.AsyncConfigs.{async_masks_of}
-use Rattle.of_messages.specs.Configs.{set_config_of, names_table, table_mod_of}
-use Rattle.of_messages.specs.PortMods.{known_bits, port_mod_of}
+use Rattle.of_messages.specs.{AsyncConfigs.async_masks_of, Configs.set_config_of, Configs.names_table, Configs.table_mod_of, PortMods.known_bits, PortMods.port_mod_of}
 use Rattle.of_messages.specs.Roles.{asked_by, role_request_of}
-use Rattle.of_formats.specs.Reading.{known}
-use Rattle.of_formats.specs.Structs.{bytes_from}
-use Rattle.of_formats.proofs.StructLaws.{bytes_taken}
+use Rattle.of_formats.{specs.Reading.known, specs.Structs.bytes_from, proofs.StructLaws.bytes_taken}
 use Rattle.of_laws.specs.Cells.{byte, u16_cell, u32_cell, pad, plain}
-use Rattle.of_laws.specs.Grammar.{async_config_cells, role_cells}
-use Rattle.of_laws.specs.Requests.{NamesTable}
-use Rattle.of_laws.proofs.Places.{Says, size}
+use Rattle.of_laws.{specs.Grammar.async_config_cells, specs.Grammar.role_cells, specs.Requests.NamesTable, proofs.Places.Says, proofs.Places.size}
 
 pub config_only : (c : SwitchConfig) (m : List ℕ) → Says 8 (u16_cell 0 ∷ u16_cell c.miss_send_len ∷ []) m → set_config_of m ≡ Ok c
 config_only c m h = rw (h.0, h.1.0) refl

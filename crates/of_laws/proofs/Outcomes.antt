@@ -1,47 +1,28 @@
 -- What a switch makes of each command, and how the sending of messages ends.
 use Rattle.std.proofs.Common.{◌≡◌, ℕ, ◌+◌, eqb, Bool, true, false, cond, List, [], ◌∷◌, ◌++◌, length, take, drop, ◌⊎◌, inl, inr, Option, Some, None, Result, Ok, Err, refl, sym, ◌∙◌, ap, subst, arith}
 use Rattle.std.specs.Prelude.{◌&&◌, ◌||◌, filter, map, slice_index_or}
-use Rattle.std.proofs.lemmas.Bool.{and_parts, eqb-true, le-leb}
-use Rattle.std.proofs.lemmas.List.{append-nil, take_all}
-use Rattle.byteorder.specs.Endian.{big_bytes, big_number}
-use Rattle.byteorder.specs.Numbers.{big_from-take}
-use Rattle.of_wire.specs.declared.code.Code.{Code}
-use Rattle.of_wire.specs.Refusals.{first_of}
-use Rattle.of_wire.proofs.Numbers.{IsBytes-big_bytes, big_bytes-big_number, take_number}
-use Rattle.of_datapath.specs.Buffers.{Held, given_since, is_id, none_held}
+use Rattle.std.proofs.{lemmas.Bool.and_parts, lemmas.Bool.eqb-true, lemmas.Bool.le-leb, lemmas.List.append-nil, lemmas.List.take_all}
+use Rattle.byteorder.specs.{Endian.big_bytes, Endian.big_number, Numbers.big_from-take}
+use Rattle.of_wire.{specs.declared.code.Code.Code, specs.Refusals.first_of, proofs.Numbers.IsBytes-big_bytes, proofs.Numbers.big_bytes-big_number, proofs.Numbers.take_number}
+use Rattle.of_datapath.specs.Commands.{command_notices, frame_named, is_notice_admitted, notice_effect, notice_effects}
+use Rattle.of_datapath.specs.{Buffers.Held, Buffers.given_since, Buffers.is_id, Buffers.none_held, declared.control.AsyncConfig.AsyncConfig, Control.heard_of, declared.effect.Effect.Effect}
+use Rattle.of_datapath.specs.declared.effect.Effect.TheVariants.{Answer}
+use Rattle.of_messages.specs.Messages.{message_body, flow_mod_of, is_delete, message_by, message_from}
 use Rattle.of_messages.specs.declared.group_mod.GroupMod.{GroupMod}
 use Rattle.of_messages.specs.declared.group_mod.GroupMod.TheVariants.{Add, Modify, Delete}
-use Rattle.of_messages.specs.declared.message.FlowMod.{FlowMod}
-use Rattle.of_messages.specs.declared.message.Message.{Message}
-use Rattle.of_messages.specs.declared.message.Message.TheVariants.{FlowMod as IsFlowMod, GroupMod as IsGroupMod}
-use Rattle.of_table.specs.declared.selection.Cause.TheVariants.{Group}
-use Rattle.of_table.specs.Selecting.{Notice}
-use Rattle.of_table.specs.Tables.{notices_in}
-use Rattle.of_messages.specs.declared.role.Role.{Role}
-use Rattle.of_formats.specs.Reading.{◌>>=◌}
-use Rattle.of_formats.specs.declared.messages.TheConstants.{FLOW_MOD, GROUP_MOD}
-use Rattle.of_messages.specs.Heads.{head_refusals, role_refusals, type_of, xid_of}
-use Rattle.of_messages.specs.GroupMods.{group_mod_of}
-use Rattle.of_messages.specs.Messages.{message_body, flow_mod_of, is_delete, message_by, message_from}
-use Rattle.of_messages.specs.Written.{error_bytes, message}
-use Rattle.of_session.specs.declared.session.Phase.TheVariants.{Open}
-use Rattle.of_session.specs.declared.session.Next.{Next}
-use Rattle.of_session.specs.Stream.{length_of}
-use Rattle.of_session.specs.Session.{read_as}
-use Rattle.of_datapath.specs.declared.control.AsyncConfig.{AsyncConfig}
-use Rattle.of_datapath.specs.Control.{heard_of}
-use Rattle.of_datapath.specs.declared.effect.Effect.{Effect}
-use Rattle.of_datapath.specs.declared.effect.Effect.TheVariants.{Answer}
-use Rattle.of_datapath.specs.Commands.{command_notices, frame_named, is_notice_admitted, notice_effect, notice_effects}
-use Rattle.of_switch.specs.State.{Core, State}
+use Rattle.of_messages.specs.{declared.message.FlowMod.FlowMod, declared.message.Message.Message}
+use Rattle.of_messages.specs.{declared.message.Message.TheVariants.FlowMod as IsFlowMod, declared.message.Message.TheVariants.GroupMod as IsGroupMod, declared.role.Role.Role}
+use Rattle.of_messages.specs.{Heads.head_refusals, Heads.role_refusals, Heads.type_of, Heads.xid_of, GroupMods.group_mod_of, Written.error_bytes, Written.message}
+use Rattle.of_table.specs.{declared.selection.Cause.TheVariants.Group, Selecting.Notice, Tables.notices_in}
+use Rattle.of_formats.specs.{Reading.◌>>=◌, declared.messages.TheConstants.FLOW_MOD, declared.messages.TheConstants.GROUP_MOD}
+use Rattle.of_session.specs.{declared.session.Phase.TheVariants.Open, declared.session.Next.Next, Stream.length_of, Session.read_as}
 use Rattle.of_switch.specs.Steps.{Done, Outcome, after_command, after_flow_mod, after_group_mod, held_frame_begun, does, done, gives, handled, next_by, next_of, refused, state_refusals, then_does, unless_refused as unless_code}
-use Rattle.of_switch.specs.Runs.{chunk_in}
-use Rattle.of_switch.specs.Loading.{config_of}
+use Rattle.of_switch.specs.{State.Core, State.State, Runs.chunk_in, Loading.config_of}
 use Rattle.of_text.specs.Configs.{Configuration}
-use Rattle.of_laws.specs.declared.fault.ConfigFault.TheVariants.{NoMemory, NotACommand, Refused}
 use Rattle.of_laws.specs.Sending.{IsReady, error_code_in, config_by, config_from, error_in, greeted, is_command, code_or_else, later_unless_refused}
-use Rattle.of_laws.specs.Outcomes.{ComesTo, TakesMessages}
 use Rattle.of_laws.proofs.SendingLemmas.{greeted_is, having, is_message, is_ready, none_left, read_whole, ready, whole_chunk}
+use Rattle.of_laws.specs.declared.fault.ConfigFault.TheVariants.{NoMemory, NotACommand, Refused}
+use Rattle.of_laws.specs.Outcomes.{ComesTo, TakesMessages}
 
 -- ---- an ERROR, read again
 

@@ -1,9 +1,8 @@
 -- Fields one after the other, and the same by places; and what is written begins with its fields.
 use Rattle.std.proofs.Common.{◌≡◌, ℕ, suc, ◌+◌, ◌%◌, ◌^◌, ◌<◌, ◌≤◌, List, [], ◌∷◌, length, get_or, take, drop, drop-cons, sym, ap, subst, ◌∙◌, arith}
-use Rattle.std.specs.Prelude.{slice_index}
 use Rattle.std.proofs.lemmas.List.{append-nil, length-drop, length-take-le, drop-drop, get_or-take, get_or-drop}
-use Rattle.byteorder.specs.Endian.{big_number, big_bytes}
-use Rattle.byteorder.specs.Numbers.{big_from-take, big_from-lt, big_number-reads_back}
+use Rattle.std.specs.Prelude.{slice_index}
+use Rattle.byteorder.specs.{Endian.big_number, Endian.big_bytes, Numbers.big_from-take, Numbers.big_from-lt, Numbers.big_number-reads_back}
 use Rattle.of_wire.proofs.Numbers.{IsBytes, IsBytes-drop, big_bytes-big_number}
 use Rattle.of_laws.specs.Cells.{StructCell, byte, number, pad, plain, even, cell_width, IsCell, Begins}
 

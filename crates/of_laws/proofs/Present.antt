@@ -1,16 +1,10 @@
 -- Groups that exist so far: of the groups in ascending order, those of shorter chains, and before the next those of chains as long.
 use Rattle.std.proofs.Common.{◌≡◌, ℕ, suc, ◌<◌, ◌≤◌, eqb, ltb, Bool, true, false, cond, List, [], ◌∷◌, ◌++◌, length, Option, Some, None, refl, sym, ◌∙◌, ap, append_assoc, arith}
-use Rattle.std.specs.Prelude.{filter, nat_lt}
-use Rattle.std.specs.List.{AllByRecursion, list_all}
-use Rattle.std.specs.Option.{option_map_or}
 use Rattle.std.proofs.lemmas.Bool.{and_parts, eq-eqb, eqb-true, ne_eqb, le-ltb, lt-ltb, ltb-true, ltb-false}
-use Rattle.std.proofs.lemmas.Bool.Decides.{nat_tests}
-use Rattle.std.proofs.lemmas.List.{append-nil, map-append}
-use Rattle.std.proofs.lemmas.List.Elements.{filter-append}
+use Rattle.std.{specs.Prelude.filter, specs.Prelude.nat_lt, specs.List.AllByRecursion, specs.List.list_all, specs.Option.option_map_or, proofs.lemmas.Bool.Decides.nat_tests}
+use Rattle.std.proofs.{lemmas.List.append-nil, lemmas.List.map-append, lemmas.List.Elements.filter-append}
 use Rattle.of_actions.specs.Rising.{is_ascending}
-use Rattle.of_groups.specs.declared.group.Group.{Group}
-use Rattle.of_groups.specs.Groups.{find_group, names, group_number, with_group}
-use Rattle.of_groups.specs.Chains.{is_chain, names_next}
+use Rattle.of_groups.specs.{declared.group.Group.Group, Groups.find_group, Groups.names, Groups.group_number, Groups.with_group, Chains.is_chain, Chains.names_next}
 use Rattle.of_groups.proofs.ChainLemmas.{both_true, there_found}
 use Rattle.of_text.specs.Groups.{TextGroup, group_at, groups_at}
 

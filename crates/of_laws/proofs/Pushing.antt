@@ -1,17 +1,11 @@
 -- The fields of a frame of which a tag was pushed or popped.
 use Rattle.std.proofs.Common.{◌≡◌, ℕ, List, ◌∷◌, sym, ap, ◌∙◌}
 use Rattle.std.specs.Prelude.{IsTrue}
-use Rattle.of_layers.specs.declared.field.Field.{Field}
-use Rattle.of_layers.specs.Layers.{Layers}
-use Rattle.of_layers.specs.Reading.{is_tag_type, layers_of}
-use Rattle.of_layers.proofs.FrameLemmas.{are_layers}
-use Rattle.of_headers.specs.FieldMap.{field_map}
-use Rattle.of_headers.specs.Tags.{inner_tags, tag_before}
-use Rattle.of_rewrite.specs.Frames.{IsFrame, frame_popped, frame_pushed}
-use Rattle.of_rewrite.proofs.Framing.{pushed_frame, popped_frame}
+use Rattle.of_layers.{specs.declared.field.Field.Field, specs.Layers.Layers, specs.Reading.is_tag_type, specs.Reading.layers_of, proofs.FrameLemmas.are_layers}
+use Rattle.of_headers.specs.{FieldMap.field_map, Tags.inner_tags, Tags.tag_before}
+use Rattle.of_rewrite.{specs.Frames.IsFrame, specs.Frames.frame_popped, specs.Frames.frame_pushed, proofs.Framing.pushed_frame, proofs.Framing.popped_frame}
 use Rattle.of_rewrite.proofs.Layering.{layers_after_push, layers_after_pop}
-use Rattle.of_laws.specs.Rewritten.{fields_tagged}
-use Rattle.of_laws.proofs.Tagging.{other_tags}
+use Rattle.of_laws.{specs.Rewritten.fields_tagged, proofs.Tagging.other_tags}
 
 pub tags_pushed : (type : ℕ) (frame : List ℕ) → IsFrame frame → IsTrue (is_tag_type type) → (layers_of (frame_pushed type frame)).tags ≡ tag_before type (layers_of frame).tags ∷ (layers_of frame).tags
 tags_pushed type frame h tag = ap (λ (l : Layers). l.tags) (layers_after_push type frame h tag)

@@ -1,39 +1,25 @@
 -- What is written of a flow or a group of a text is refused with the text's code.
 use Rattle.std.proofs.Common.{◌≡◌, ℕ, ◌+◌, ◌-◌, ◌<◌, ◌≤◌, zero, suc, Bool, true, false, not, eqb, ltb, cond, List, [], ◌∷◌, ◌++◌, length, take, drop, Option, Some, None, Result, Ok, Err, refl, sym, ap, ◌∙◌, arith, append_assoc, zero-add}
 use Rattle.std.specs.Prelude.{◌&&◌, ◌||◌, IfSome, bit_and, replicate}
-use Rattle.std.specs.Option.{option_map}
-use Rattle.std.specs.List.{AllByRecursion, flat_map}
 use Rattle.std.proofs.lemmas.Bool.{eqb-true, le-ltb, lt-ltb, ltb-false, ltb-true, ne_eqb, not-false}
+use Rattle.std.specs.{Option.option_map, List.AllByRecursion, List.flat_map}
 use Rattle.std.proofs.lemmas.List.{append-nil, drop_at, length-append, length-replicate}
-use Rattle.of_wire.specs.declared.code.Code.{Code}
-use Rattle.of_wire.specs.Items.{Items, item_then, items_from, outcome}
-use Rattle.of_wire.specs.Refusals.{first_of, refusal}
+use Rattle.of_wire.specs.{declared.code.Code.Code, Items.Items, Items.item_then, Items.items_from, Items.outcome, Refusals.first_of, Refusals.refusal}
 use Rattle.of_wire.proofs.FirstLemmas.{none_applies}
-use Rattle.of_layers.specs.Fields.{is_maskable, number_of, ones_of}
-use Rattle.of_layers.specs.declared.field.Field.{Field}
-use Rattle.of_oxm.specs.Canonical.{canonical, written_len}
-use Rattle.of_oxm.specs.MatchFieldWire.{is_among, match_field_of, encoding}
+use Rattle.of_layers.specs.{Fields.is_maskable, Fields.number_of, Fields.ones_of, declared.field.Field.Field}
 use Rattle.of_oxm.specs.MatchGrammar.{match_body, match_head_refusals, match_len, padded, encodings}
-use Rattle.of_oxm.specs.MatchReading.{match_by, match_fields, match_of, then_normal}
 use Rattle.of_oxm.specs.NormalForm.{IsAscending, IsKept, IsKeptMask, kept, normal, with_field, with_kept_field}
-use Rattle.of_oxm.specs.Prerequisites.{prerequisites_met}
-use Rattle.of_oxm.specs.declared.match_field.MatchField.{MatchField}
-use Rattle.of_oxm.proofs.MatchFieldLemmas.{field_again}
-use Rattle.of_oxm.proofs.Normal.{among_append, under_ones}
+use Rattle.of_oxm.specs.{Canonical.canonical, Canonical.written_len, MatchFieldWire.is_among, MatchFieldWire.match_field_of, MatchFieldWire.encoding}
+use Rattle.of_oxm.specs.{MatchReading.match_by, MatchReading.match_fields, MatchReading.match_of, MatchReading.then_normal, Prerequisites.prerequisites_met}
+use Rattle.of_oxm.{specs.declared.match_field.MatchField.MatchField, proofs.MatchFieldLemmas.field_again, proofs.Normal.among_append, proofs.Normal.under_ones}
 use Rattle.of_oxm.proofs.Written.{kept_encoded, written_fits}
-use Rattle.of_actions.specs.declared.action.Action.{Action}
-use Rattle.of_actions.specs.declared.action.Action.TheVariants.{SetField}
-use Rattle.of_actions.specs.Actions.{actions_of, actions_said}
+use Rattle.of_actions.specs.{declared.action.Action.Action, declared.action.Action.TheVariants.SetField, Actions.actions_of, Actions.actions_said}
+use Rattle.of_actions.{specs.CanonicalActions.canonical_action, specs.CanonicalActions.canonical_actions, specs.CanonicalActions.canonical_set_field, proofs.ActionsAgain.action_again}
 use Rattle.of_actions.specs.Actions as wire
-use Rattle.of_actions.specs.CanonicalActions.{canonical_action, canonical_actions, canonical_set_field}
-use Rattle.of_actions.proofs.ActionsAgain.{action_again}
 use Rattle.of_text.specs.Refusals.{text_action_refusals, text_field_refusals, list_refusals, match_refusals, or_else}
-use Rattle.of_text.specs.Rows.{ActionFits, FieldFits, IsMask as RowMask}
-use Rattle.of_laws.specs.Refused.{match_outcome}
-use Rattle.of_laws.proofs.MatchTails.{headed}
-use Rattle.of_text.proofs.EntryLemmas.{action_served}
-use Rattle.of_text.proofs.RefusalLemmas.{first_append}
+use Rattle.of_text.{specs.Rows.ActionFits, specs.Rows.FieldFits, specs.Rows.IsMask as RowMask, proofs.EntryLemmas.action_served, proofs.RefusalLemmas.first_append}
 use Rattle.of_text.proofs.WireLemmas.{action_as_on_wire, field_as_on_wire}
+use Rattle.of_laws.{specs.Refused.match_outcome, proofs.MatchTails.headed}
 
 pub take-nil : {X : Type 0} (k : ℕ) → take {A = X} k [] ≡ []
 take-nil zero = refl

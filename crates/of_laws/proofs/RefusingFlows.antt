@@ -1,33 +1,19 @@
 -- A FLOW_MOD of a flow of a text is refused with the text's code.
 use Rattle.std.proofs.Common.{◌≡◌, ℕ, ◌+◌, ◌-◌, ◌%◌, ◌^◌, ◌<◌, Bool, true, false, not, eqb, List, [], ◌∷◌, ◌++◌, length, map, take, drop, Option, Some, None, Result, Ok, Err, refl, sym, ap, ◌∙◌, arith}
-use Rattle.std.specs.Prelude.{replicate}
-use Rattle.std.specs.List.{AllByRecursion, flat_map, list_all}
-use Rattle.std.proofs.lemmas.Bool.Decides.{nat_tests, eqb_tells}
-use Rattle.std.proofs.lemmas.List.{length-append, take_at}
-use Rattle.std.proofs.lemmas.List.Folds.{list_any-append}
-use Rattle.byteorder.specs.Endian.{big_bytes, big_number}
-use Rattle.byteorder.specs.Numbers.{big_number-reads_back}
-use Rattle.of_wire.specs.declared.code.Code.{Code}
-use Rattle.of_wire.specs.Items.{items_from, outcome}
-use Rattle.of_wire.specs.Numbered.{is_distinct, is_used}
-use Rattle.of_wire.specs.Refusals.{first_of, refusal}
-use Rattle.of_actions.specs.declared.instruction.Instruction.{Instruction}
+use Rattle.std.{specs.Prelude.replicate, specs.List.AllByRecursion, specs.List.flat_map, specs.List.list_all, proofs.lemmas.Bool.Decides.nat_tests, proofs.lemmas.Bool.Decides.eqb_tells}
+use Rattle.std.proofs.{lemmas.List.length-append, lemmas.List.take_at, lemmas.List.Folds.list_any-append}
+use Rattle.byteorder.specs.{Endian.big_bytes, Endian.big_number, Numbers.big_number-reads_back}
+use Rattle.of_wire.specs.{declared.code.Code.Code, Items.items_from, Items.outcome, Numbered.is_distinct, Numbered.is_used, Refusals.first_of, Refusals.refusal}
 use Rattle.of_actions.specs.declared.instruction.Instruction.TheVariants.{Apply, Clear, Write, Metadata, Goto}
-use Rattle.of_actions.specs.Beginnings.{len_at}
-use Rattle.of_actions.specs.CanonicalActions.{canonical_actions}
-use Rattle.of_actions.specs.CanonicalInstructions.{after_type, canonical_instruction, canonical_instructions}
 use Rattle.of_actions.specs.Headers.{Header, goto, metadata, write, apply, clear, header_at, headers_of, is_next, kind_of}
-use Rattle.of_actions.specs.InstructionLists.{run_place, type_of_instruction}
 use Rattle.of_actions.specs.InstructionReading.{bodies_of, instruction_of_header, instructions_in_bytes, instruction_prepended, then_bodies, then_ordered, with_actions_read}
-use Rattle.of_actions.specs.Rising.{is_ascending}
-use Rattle.of_actions.proofs.ActionsAgain.{length-canonical}
-use Rattle.of_actions.proofs.Bodies.{distinct_place}
+use Rattle.of_actions.specs.{declared.instruction.Instruction.Instruction, Beginnings.len_at, CanonicalActions.canonical_actions}
+use Rattle.of_actions.specs.CanonicalInstructions.{after_type, canonical_instruction, canonical_instructions}
+use Rattle.of_actions.{specs.InstructionLists.run_place, specs.InstructionLists.type_of_instruction, specs.Rising.is_ascending, proofs.ActionsAgain.length-canonical, proofs.Bodies.distinct_place}
 use Rattle.of_actions.proofs.RunOrders.{order_same, rising_once}
-use Rattle.of_text.specs.Refusals.{goto_refusals, instruction_refusals, list_refusals, or_else}
-use Rattle.of_text.proofs.RefusalLemmas.{first_append}
-use Rattle.of_laws.specs.Refused.{InstructionFits}
+use Rattle.of_text.{specs.Refusals.goto_refusals, specs.Refusals.instruction_refusals, specs.Refusals.list_refusals, specs.Refusals.or_else, proofs.RefusalLemmas.first_append}
 use Rattle.of_laws.proofs.Refusing.{AreSteps, IsStep, actions_told, walk, walked}
-use Rattle.of_laws.proofs.InstructionStructs.{last_left, served_as}
+use Rattle.of_laws.{specs.Refused.InstructionFits, proofs.InstructionStructs.last_left, proofs.InstructionStructs.served_as}
 
 -- ---- headers
 

@@ -1,41 +1,23 @@
 -- A GROUP_MOD of a group of a text is refused with the text's code, where the message decides it.
 use Rattle.std.proofs.Common.{◌≡◌, ℕ, suc, ◌+◌, ◌-◌, ◌^◌, ◌<◌, ◌≤◌, Bool, true, false, cond, ltb, List, [], ◌∷◌, ◌++◌, length, drop, map, take, Option, Some, None, Result, Ok, Err, refl, sym, ◌∙◌, ap, append_assoc, arith, zero-add}
-use Rattle.std.specs.Prelude.{slice_index}
-use Rattle.std.specs.List.{AllByRecursion, flat_map}
-use Rattle.std.proofs.lemmas.Bool.{le-ltb, lt-ltb, ltb-false, ltb-true}
-use Rattle.std.proofs.lemmas.List.{length-append, take_at}
-use Rattle.of_wire.specs.declared.limits.TheConstants.{OFPG_MAX}
-use Rattle.byteorder.specs.Endian.{big_number}
-use Rattle.byteorder.specs.Numbers.{big_number-reads_back}
-use Rattle.of_wire.specs.declared.code.Code.{Code}
-use Rattle.of_wire.specs.Items.{outcome}
-use Rattle.of_wire.specs.Refusals.{first_of, refusal}
-use Rattle.of_formats.specs.Reading.{◌>>=◌}
-use Rattle.of_formats.specs.Structs.{numbers}
+use Rattle.std.specs.{Prelude.slice_index, List.AllByRecursion, List.flat_map}
+use Rattle.std.proofs.{lemmas.Bool.le-ltb, lemmas.Bool.lt-ltb, lemmas.Bool.ltb-false, lemmas.Bool.ltb-true, lemmas.List.length-append, lemmas.List.take_at}
+use Rattle.of_wire.specs.{declared.limits.TheConstants.OFPG_MAX, declared.code.Code.Code, Items.outcome, Refusals.first_of, Refusals.refusal}
+use Rattle.byteorder.specs.{Endian.big_number, Numbers.big_number-reads_back}
+use Rattle.of_formats.specs.{Reading.◌>>=◌, Structs.numbers}
 use Rattle.of_formats.specs.Tables as tables
-use Rattle.of_actions.specs.declared.action.Action.{Action}
-use Rattle.of_actions.specs.Actions.{actions_said}
-use Rattle.of_actions.specs.CanonicalActions.{canonical_actions}
-use Rattle.of_actions.proofs.ActionsAgain.{length-canonical}
-use Rattle.of_groups.specs.declared.bucket.Bucket.{Bucket}
-use Rattle.of_groups.specs.Groups.{kind_number}
+use Rattle.of_actions.{specs.declared.action.Action.Action, specs.Actions.actions_said, specs.CanonicalActions.canonical_actions, proofs.ActionsAgain.length-canonical}
+use Rattle.of_groups.specs.{declared.bucket.Bucket.Bucket, Groups.kind_number}
 use Rattle.of_messages.specs.Buckets.{actions_in, bucket_of_bytes, bucket_with, buckets, buckets_said, actions_fault, bucket_len_at}
 use Rattle.of_messages.specs.CanonicalGroups.{canonical_bucket, canonical_buckets, group_add_bytes, group_add_fixed_part}
-use Rattle.of_messages.specs.GroupMods.{group_mod_of, group_of, group_kind_of}
-use Rattle.of_messages.specs.Heads.{header_length, type_of, version_of}
-use Rattle.of_messages.specs.Messages.{message_of}
+use Rattle.of_messages.specs.{GroupMods.group_mod_of, GroupMods.group_of, GroupMods.group_kind_of, Heads.header_length, Heads.type_of, Heads.version_of, Messages.message_of}
 use Rattle.of_messages.specs.declared.group_mod.NewGroup.{NewGroup}
 use Rattle.of_build.specs.Listing.{new_of}
-use Rattle.of_text.specs.Groups.{TextBucket, TextGroup, bucket_of, buckets_of}
-use Rattle.of_text.specs.Refusals.{buckets_refusals, list_refusals, or_else}
+use Rattle.of_text.specs.{Groups.TextBucket, Groups.TextGroup, Groups.bucket_of, Groups.buckets_of, Refusals.buckets_refusals, Refusals.list_refusals, Refusals.or_else}
 use Rattle.of_text.proofs.RefusalLemmas.{first_append}
-use Rattle.of_laws.specs.Refused.{IsSaidBucket, IsSaidGroup, group_outcome, said_refusals}
 use Rattle.of_laws.proofs.Refusing.{AreSteps, IsStep, actions_told, take-nil, walk, walked}
-use Rattle.of_laws.proofs.BucketTails.{bucket_left}
-use Rattle.of_laws.proofs.Heads.{as_group_mod, body_by, group_mod}
-use Rattle.of_laws.proofs.Only.{of_kind}
-use Rattle.of_laws.proofs.OnlyLarge.{as_add, by_add, kind_again}
-use Rattle.of_laws.proofs.WrittenRequests.{kind_same}
+use Rattle.of_laws.{specs.Refused.IsSaidBucket, specs.Refused.IsSaidGroup, specs.Refused.group_outcome, specs.Refused.said_refusals, proofs.BucketTails.bucket_left}
+use Rattle.of_laws.proofs.{Heads.as_group_mod, Heads.body_by, Heads.group_mod, Only.of_kind, OnlyLarge.as_add, OnlyLarge.by_add, OnlyLarge.kind_again, WrittenRequests.kind_same}
 
 -- ---- one bucket
 

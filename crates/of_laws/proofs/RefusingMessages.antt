@@ -1,35 +1,20 @@
 -- A FLOW_MOD of a flow of a text is refused with the text's code.
 use Rattle.std.proofs.Common.{◌≡◌, ℕ, ◌<◌, Bool, true, false, not, ltb, eqb, List, [], ◌∷◌, ◌++◌, length, drop, Option, Some, None, Result, Ok, Err, refl, sym, ◌∙◌, ap, append_assoc, arith, inl, inr}
-use Rattle.std.specs.Prelude.{◌⊎◌, bit_and}
-use Rattle.std.specs.List.{flat_map}
-use Rattle.std.proofs.lemmas.Bool.{eq-eqb, le-ltb, lt-ltb, ne_eqb}
-use Rattle.std.proofs.lemmas.List.{drop_at, length-append}
-use Rattle.std.proofs.lemmas.Nat.{and_le_r}
-use Rattle.of_wire.specs.declared.code.Code.{Code}
-use Rattle.of_wire.specs.Items.{outcome}
-use Rattle.of_wire.specs.Refusals.{first_of, refusal}
+use Rattle.std.{specs.Prelude.◌⊎◌, specs.Prelude.bit_and, specs.List.flat_map, proofs.lemmas.Bool.eq-eqb, proofs.lemmas.Bool.le-ltb, proofs.lemmas.Bool.lt-ltb, proofs.lemmas.Bool.ne_eqb}
+use Rattle.std.proofs.{lemmas.List.drop_at, lemmas.List.length-append, lemmas.Nat.and_le_r}
+use Rattle.of_wire.specs.{declared.code.Code.Code, Items.outcome, Refusals.first_of, Refusals.refusal}
 use Rattle.of_formats.specs.Reading.{◌>>=◌, unless}
-use Rattle.of_oxm.specs.declared.match_field.MatchField.{MatchField}
-use Rattle.of_oxm.specs.Canonical.{canonical}
-use Rattle.of_oxm.specs.MatchReading.{match_of}
-use Rattle.of_actions.specs.declared.instruction.Instruction.{Instruction}
-use Rattle.of_actions.specs.CanonicalInstructions.{canonical_instructions}
-use Rattle.of_actions.specs.FlowCheck.{all_go_with}
+use Rattle.of_oxm.specs.{declared.match_field.MatchField.MatchField, Canonical.canonical, MatchReading.match_of}
+use Rattle.of_actions.specs.{declared.instruction.Instruction.Instruction, CanonicalInstructions.canonical_instructions, FlowCheck.all_go_with}
 use Rattle.of_actions.specs.InstructionReading as reading
-use Rattle.of_messages.specs.declared.message.FlowMod.{FlowMod}
-use Rattle.of_messages.specs.declared.message.FlowModCommand.{FlowModCommand}
-use Rattle.of_messages.specs.declared.message.FlowModCommand.TheVariants.{Add}
 use Rattle.of_messages.specs.Messages.{command_said, flow_mod_by, flow_mod_of, instructions_for, message_of}
+use Rattle.of_messages.specs.{declared.message.FlowMod.FlowMod, declared.message.FlowModCommand.FlowModCommand, declared.message.FlowModCommand.TheVariants.Add}
 use Rattle.of_messages.specs.Written.{flow_mod_bytes, flow_mod_numbers}
 use Rattle.of_build.specs.Listing.{add_of}
-use Rattle.of_text.specs.Flows.{Flow}
 use Rattle.of_text.specs.Refusals.{flow_refusals, goto_refusals, instruction_refusals, instructions_refusals, match_refusals, or_else}
-use Rattle.of_text.proofs.RefusalLemmas.{first_append}
-use Rattle.of_laws.specs.Refused.{IsSaid, match_outcome, message_outcome}
-use Rattle.of_laws.proofs.FlowAgain.{Says, body_is, says}
-use Rattle.of_laws.proofs.Refusing.{match_told}
-use Rattle.of_laws.proofs.RefusingFlows.{instructions_told}
-use Rattle.of_laws.proofs.Heads.{as_flow_mod}
+use Rattle.of_text.{specs.Flows.Flow, proofs.RefusalLemmas.first_append}
+use Rattle.of_laws.{specs.Refused.IsSaid, specs.Refused.match_outcome, specs.Refused.message_outcome, proofs.FlowAgain.Says, proofs.FlowAgain.body_is, proofs.FlowAgain.says}
+use Rattle.of_laws.proofs.{Refusing.match_told, RefusingFlows.instructions_told, Heads.as_flow_mod}
 
 says_flow : (xid : ℕ) (f : Flow) → IsSaid f → Says (add_of f) (flow_mod_bytes xid (add_of f))
 says_flow xid f w =

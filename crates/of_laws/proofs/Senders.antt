@@ -1,20 +1,13 @@
 -- What a controller of a role may send.
 use Rattle.std.proofs.Common.{◌≡◌, ℕ, Bool, true, false, cond, List, [], ◌∷◌, ◌++◌, Option, Some, None, Ok, Err, refl, sym, ap, ◌∙◌}
 use Rattle.std.specs.Prelude.{◌&&◌}
-use Rattle.of_wire.specs.declared.code.Code.{Code}
-use Rattle.of_wire.specs.Refusals.{refusal, first_of}
-use Rattle.of_wire.proofs.Numbers.{IsBytes}
-use Rattle.of_messages.specs.declared.message.Message.{Message}
+use Rattle.of_wire.{specs.declared.code.Code.Code, specs.Refusals.refusal, specs.Refusals.first_of, proofs.Numbers.IsBytes}
 use Rattle.of_messages.specs.declared.message.Message.TheVariants.{Hello, Error, EchoRequest, EchoReply, FeaturesRequest, GetConfigRequest, SetConfig, PacketOut as IsPacketOut, FlowMod as IsFlowMod, GroupMod as IsGroupMod, PortMod as IsPortMod, TableMod as IsTableMod, Multipart, BarrierRequest, RoleRequest as IsRoleRequest, GetAsyncRequest, SetAsync}
-use Rattle.of_messages.specs.declared.role.Role.{Role}
+use Rattle.of_messages.specs.Heads.{type_of, is_slave, is_change, head_refusals, role_refusals, xid_of}
+use Rattle.of_messages.specs.{declared.message.Message.Message, declared.role.Role.Role, Messages.message_body, Messages.message_by, Messages.message_from, Messages.message_of}
 use Rattle.of_messages.specs.declared.role.Role.TheVariants as role
 use Rattle.of_formats.specs.Messages.{message_row}
-use Rattle.of_messages.specs.Heads.{type_of, is_slave, is_change, head_refusals, role_refusals, xid_of}
-use Rattle.of_messages.specs.Messages.{message_body, message_by, message_from, message_of}
-use Rattle.of_laws.specs.Grammar.{type, changes_switch, MaySend, Encodes}
-use Rattle.of_laws.proofs.AnyMessage.{of_controller}
-use Rattle.of_laws.proofs.Found.{found}
-use Rattle.of_laws.proofs.Only.{only}
+use Rattle.of_laws.{specs.Grammar.type, specs.Grammar.changes_switch, specs.Grammar.MaySend, specs.Grammar.Encodes, proofs.AnyMessage.of_controller, proofs.Found.found, proofs.Only.only}
 
 -- ---- refusals of which the first part does not apply
 

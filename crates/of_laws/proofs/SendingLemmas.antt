@@ -1,34 +1,22 @@
 -- Commands that a switch is sent, one by one.
 use Rattle.std.proofs.Common.{◌≡◌, ℕ, suc, ◌+◌, ◌<◌, leb, eqb, true, false, List, [], ◌∷◌, length, get_or, drop, ◌⊎◌, inl, inr, Option, Some, None, Result, Ok, Err, refl, sym, ◌∙◌, ap, subst, arith, add-one, drop-cons}
-use Rattle.std.specs.Prelude.{◌&&◌, ◌||◌}
-use Rattle.std.proofs.lemmas.Bool.{and_parts, eqb-true, leb-true}
+use Rattle.std.{specs.Prelude.◌&&◌, specs.Prelude.◌||◌, specs.Option.option_map, proofs.lemmas.Bool.and_parts, proofs.lemmas.Bool.eqb-true, proofs.lemmas.Bool.leb-true}
 use Rattle.std.proofs.lemmas.List.{append-nil, drop_all}
-use Rattle.std.specs.Option.{option_map}
 use Rattle.smallvec.specs.SmallVec.{SmallVec}
 use Rattle.of_wire.specs.declared.code.Code.{Code}
-use Rattle.of_messages.specs.declared.message.Message.{Message}
+use Rattle.of_messages.specs.{declared.message.Message.Message, Heads.type_of, Hellos.version_by, Hellos.elements_of, Messages.message_from}
 use Rattle.of_formats.specs.declared.messages.TheConstants.{FLOW_MOD, GROUP_MOD}
-use Rattle.of_messages.specs.Heads.{type_of}
-use Rattle.of_messages.specs.Hellos.{version_by, elements_of}
-use Rattle.of_messages.specs.Messages.{message_from}
-use Rattle.of_session.specs.declared.session.Phase.TheVariants.{Open}
-use Rattle.of_session.specs.declared.session.Next.{Next}
-use Rattle.of_session.specs.Stream.{IsWholeMessage, Whole, beginning_of, length_of}
-use Rattle.of_session.specs.Session.{read_as}
+use Rattle.of_session.specs.{declared.session.Phase.TheVariants.Open, declared.session.Next.Next, Stream.IsWholeMessage, Stream.Whole, Stream.beginning_of, Stream.length_of, Session.read_as}
 use Rattle.of_session.proofs.Fronts.{message_front}
 use Rattle.of_text.specs.Configs.{Configuration}
 use Rattle.of_build.specs.Building.{hello}
-use Rattle.of_datapath.specs.declared.effect.Effect.{Effect}
-use Rattle.of_datapath.specs.declared.effect.Effect.TheVariants.{Answer}
-use Rattle.of_switch.specs.declared.switch_error.SwitchError.{SwitchError}
-use Rattle.of_switch.specs.State.{Core, State, new_core, start}
+use Rattle.of_datapath.specs.{declared.effect.Effect.Effect, declared.effect.Effect.TheVariants.Answer}
 use Rattle.of_switch.specs.Steps.{Outcome, coming, connected, fed, gives, next_by, next_of}
-use Rattle.of_switch.specs.Calls.{Call, connect_refusal, feed_refusal}
-use Rattle.of_switch.specs.Runs.{behind_effects, drain, chunk_in}
-use Rattle.of_switch.proofs.Joining.{drained_more, drained_none}
+use Rattle.of_switch.specs.{declared.switch_error.SwitchError.SwitchError, State.Core, State.State, State.new_core, State.start, Calls.Call, Calls.connect_refusal, Calls.feed_refusal}
+use Rattle.of_switch.{specs.Runs.behind_effects, specs.Runs.drain, specs.Runs.chunk_in, proofs.Joining.drained_more, proofs.Joining.drained_none}
+use Rattle.of_laws.specs.Sending.{IsReady, error_code_in, config_by, config_from, error_in, greeted, is_command, code_or_else}
 use Rattle.of_laws.specs.declared.fault.ConfigFault.{ConfigFault}
 use Rattle.of_laws.specs.declared.fault.ConfigFault.TheVariants.{NoMemory, NotACommand, Refused}
-use Rattle.of_laws.specs.Sending.{IsReady, error_code_in, config_by, config_from, error_in, greeted, is_command, code_or_else}
 
 -- ---- an open connection
 

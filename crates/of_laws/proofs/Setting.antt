@@ -1,20 +1,11 @@
 -- The fields of a frame of which a number was replaced.
 use Rattle.std.proofs.Common.{◌≡◌, ℕ, ◌+◌, ◌-◌, ◌%◌, ◌^◌, Bool, true, false, cond, eqb, List, Option, Some, None, refl, ap, ◌∙◌, arith}
-use Rattle.std.specs.Prelude.{IsTrue, nat_le}
-use Rattle.std.specs.Option.{option_map}
-use Rattle.std.proofs.lemmas.Bool.{ne_eqb}
-use Rattle.of_layers.specs.declared.field.Field.{Field}
-use Rattle.of_layers.specs.declared.field.Field.TheVariants.{InPort, Metadata, VlanVid}
-use Rattle.of_layers.specs.Fields.{row_of, number_of, is_settable}
-use Rattle.of_layers.specs.Layers.{Layers, cells, ttl}
-use Rattle.of_layers.specs.Looking.{look_up}
-use Rattle.of_layers.specs.Reading.{layers_of}
+use Rattle.std.{specs.Prelude.IsTrue, specs.Prelude.nat_le, specs.Option.option_map, proofs.lemmas.Bool.ne_eqb}
+use Rattle.of_layers.specs.{declared.field.Field.Field, declared.field.Field.TheVariants.InPort, declared.field.Field.TheVariants.Metadata, declared.field.Field.TheVariants.VlanVid}
+use Rattle.of_layers.specs.{Fields.row_of, Fields.number_of, Fields.is_settable, Layers.Layers, Layers.cells, Layers.ttl, Looking.look_up, Reading.layers_of}
 use Rattle.of_headers.specs.FieldMap.{field_map, vid}
-use Rattle.of_rewrite.specs.Frames.{IsFrame, frame_set, frame_ttl, frame_ttl_decremented}
-use Rattle.of_rewrite.specs.Replaced.{layers_set}
-use Rattle.of_rewrite.specs.TimeToLive.{ttl_of, layers_ttl_decremented}
-use Rattle.of_rewrite.proofs.Layering.{layers_after_set, layers_after_ttl, layers_after_decrement}
-use Rattle.of_rewrite.proofs.Looking.{field_found, not_set, field_kept}
+use Rattle.of_rewrite.specs.{Frames.IsFrame, Frames.frame_set, Frames.frame_ttl, Frames.frame_ttl_decremented, Replaced.layers_set, TimeToLive.ttl_of, TimeToLive.layers_ttl_decremented}
+use Rattle.of_rewrite.proofs.{Layering.layers_after_set, Layering.layers_after_ttl, Layering.layers_after_decrement, Looking.field_found, Looking.not_set, Looking.field_kept}
 use Rattle.of_laws.specs.Rewritten.{vid_after, value_after, fields_set}
 
 -- ---- a field is set

@@ -2,12 +2,9 @@
 use Rattle.std.proofs.Common.{◌≡◌, ℕ, ◌≤◌, List, [], length, ◌∙◌, arith}
 use Rattle.of_groups.specs.declared.group.Group.{Group}
 use Rattle.of_table.specs.Tables.{Tables}
-use Rattle.of_messages.specs.Heads.{header_length}
-use Rattle.of_messages.specs.Written.{message}
-use Rattle.of_messages.proofs.Lengths.{is_message}
+use Rattle.of_messages.{specs.Heads.header_length, specs.Written.message, proofs.Lengths.is_message}
 use Rattle.of_session.specs.Stream.{IsWholeMessage, length_of}
-use Rattle.of_datapath.specs.Buffers.{none_held}
-use Rattle.of_datapath.specs.Control.{new_control}
+use Rattle.of_datapath.specs.{Buffers.none_held, Control.new_control}
 use Rattle.of_switch.specs.State.{Core}
 
 pub one_message : (kind xid : ℕ) (body : List ℕ) → length body ≤ 65527 → IsWholeMessage (message kind xid body)

@@ -2,10 +2,7 @@
 use Rattle.std.proofs.Common.{◌≡◌, ℕ, List, [], ◌∷◌, Some, refl, ap, ◌∙◌}
 use Rattle.of_layers.specs.declared.field.Field.{Field}
 use Rattle.of_layers.specs.declared.field.Field.TheVariants.{InPort, Metadata, VlanVid, VlanPcp}
-use Rattle.of_layers.specs.Fields.{row_of, number_of}
-use Rattle.of_layers.specs.Layers.{Layers, cells}
-use Rattle.of_layers.specs.Looking.{look_up}
-use Rattle.of_layers.specs.WellFormed.{IsLayers}
+use Rattle.of_layers.specs.{Fields.row_of, Fields.number_of, Layers.Layers, Layers.cells, Looking.look_up, WellFormed.IsLayers}
 use Rattle.of_headers.specs.FieldMap.{field_map, vid}
 use Rattle.of_rewrite.proofs.Looking.{in_outermost, vid_found, pcp_found, look_untagged}
 use Rattle.of_laws.specs.Rewritten.{vid_of, pcp_of, fields_tagged}

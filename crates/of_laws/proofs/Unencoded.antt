@@ -1,31 +1,20 @@
 -- What some bytes encode has numbers that are allowed.
 use Rattle.std.proofs.Common.{◌≡◌, ℕ, ◌+◌, ◌^◌, ◌<◌, ◌≤◌, Bool, true, false, not, eqb, ltb, leb, List, [], ◌∷◌, length, Option, Some, None, refl, sym, ap, ◌∙◌, arith}
-use Rattle.std.specs.Prelude.{◌&&◌, is_none}
-use Rattle.std.specs.List.{list_all}
-use Rattle.std.proofs.lemmas.Bool.{eq-eqb, eqb-true, lt-ltb}
+use Rattle.std.{specs.Prelude.◌&&◌, specs.Prelude.is_none, specs.List.list_all, proofs.lemmas.Bool.eq-eqb, proofs.lemmas.Bool.eqb-true, proofs.lemmas.Bool.lt-ltb}
 use Rattle.std.proofs.lemmas.Bool.Decides.{nat_tests}
 use Rattle.of_wire.specs.declared.limits.TheConstants.{OFPG_ALL, OFPG_MAX, OFPP_ANY}
 use Rattle.of_groups.specs.declared.bucket.Bucket.{Bucket}
-use Rattle.of_messages.specs.Messages.{is_delete}
-use Rattle.of_messages.specs.declared.group_mod.GroupMod.{GroupMod}
-use Rattle.of_messages.specs.declared.group_mod.GroupMod.TheVariants as group
-use Rattle.of_messages.specs.declared.message.FlowMod.{FlowMod}
-use Rattle.of_messages.specs.declared.message.FlowModCommand.{FlowModCommand}
-use Rattle.of_messages.specs.declared.message.FlowModCommand.TheVariants.{Add, Modify as Modifies, Delete as Deletes}
-use Rattle.of_messages.specs.declared.message.Message.{Message}
 use Rattle.of_messages.specs.declared.message.Message.TheVariants.{EchoRequest, PacketOut as IsPacketOut, FlowMod as IsFlowMod, GroupMod as IsGroupMod, PortMod as IsPortMod, TableMod as IsTableMod, Multipart}
-use Rattle.of_messages.specs.declared.message.PacketData.{PacketData}
-use Rattle.of_messages.specs.declared.message.PacketData.TheVariants.{Buffered, Frame}
-use Rattle.of_messages.specs.declared.multipart.MultipartRequest.{MultipartRequest}
+use Rattle.of_messages.specs.{Messages.is_delete, declared.group_mod.GroupMod.GroupMod, declared.message.FlowMod.FlowMod, declared.message.FlowModCommand.FlowModCommand}
+use Rattle.of_messages.specs.declared.message.FlowModCommand.TheVariants.{Add, Modify as Modifies, Delete as Deletes}
+use Rattle.of_messages.specs.{declared.message.Message.Message, declared.message.PacketData.PacketData}
+use Rattle.of_messages.specs.{declared.message.PacketData.TheVariants.Buffered, declared.message.PacketData.TheVariants.Frame, declared.multipart.MultipartRequest.MultipartRequest}
 use Rattle.of_messages.specs.declared.multipart.MultipartRequest.TheVariants.{Flow, Aggregate, PortStats, Group}
-use Rattle.of_laws.specs.Buckets.{AreBuckets}
+use Rattle.of_messages.specs.declared.group_mod.GroupMod.TheVariants as group
 use Rattle.of_laws.specs.Grammar.{HasInstructions, IsValidData, IsValidFlowMod, IsValidGroupMod, IsValidNumber, MayName, MatchThenInstructions, Encodes, GroupTail, deletes, fixed_part_cells}
-use Rattle.of_laws.specs.Requests.{IsOne, IsValidRequest}
-use Rattle.of_laws.proofs.OnlyLarge.{ingress, no_fault}
-use Rattle.of_laws.proofs.OnlySmall.{table_named}
-use Rattle.of_laws.proofs.InstructionStructs.{encoded_for}
-use Rattle.of_laws.proofs.Places.{size_is}
 use Rattle.of_laws.specs.Sound.{counts_nothing, has_no_instructions, is_one, is_sound, is_sound_command, is_sound_group_mod, is_sound_number, is_sound_packet, is_sound_request}
+use Rattle.of_laws.{specs.Buckets.AreBuckets, specs.Requests.IsOne, specs.Requests.IsValidRequest, proofs.OnlyLarge.ingress, proofs.OnlyLarge.no_fault, proofs.OnlySmall.table_named}
+use Rattle.of_laws.proofs.{InstructionStructs.encoded_for, Places.size_is}
 
 and_true : (a b : Bool) → a ≡ true → b ≡ true → (a && b) ≡ true
 and_true a b p q = rw (p, q) refl

@@ -1,13 +1,9 @@
 -- A number that is found by its name among the cells of well-formed layers has the width of its name: each header that names it gives it so many bits.
 use Rattle.std.proofs.Common.{◌≡◌, ℕ, ◌^◌, ◌<◌, Bool, true, false, cond, ◌&&◌, eqb, List, [], ◌∷◌, ◌++◌, get_or, Option, Some, None, refl, sym, ap, ◌∙◌, subst}
-use Rattle.std.specs.Prelude.{◌==◌, if◌then◌else◌}
-use Rattle.std.specs.Option.{option_or}
-use Rattle.std.proofs.lemmas.Bool.{eqb-true}
-use Rattle.of_layers.specs.declared.transport.Transport.{Transport}
+use Rattle.std.{specs.Prelude.◌==◌, specs.Prelude.if◌then◌else◌, specs.Option.option_or, proofs.lemmas.Bool.eqb-true}
 use Rattle.of_layers.specs.Layers.{Item, Cell, Extension, Options, Fragment, Body, Plain, Arp, Ipv4, Ipv6, Carried, Layers, cells_in, byte_cells, inner_cells, tag_cells, extension_cells, carried_cells, body_cells, cells, next_before, addresses, outer_tag, inner_tag, ether_type, arp, ipv4, ipv6, options, fragment, items_of}
-use Rattle.of_layers.specs.Looking.{name_is, look_up}
 use Rattle.of_layers.specs.WellFormed.{FitsItems, AreTags, AreExtensions, IsBody, IsLayers}
-use Rattle.of_layers.proofs.TestLemmas.{and_true}
+use Rattle.of_layers.{specs.declared.transport.Transport.Transport, specs.Looking.name_is, specs.Looking.look_up, proofs.TestLemmas.and_true}
 use Rattle.of_headers.proofs.LookLemmas.{look-append, look_bytes}
 
 -- ---- what is found among cells

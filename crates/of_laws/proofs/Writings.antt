@@ -1,8 +1,7 @@
 -- What is written begins with its fields.
 use Rattle.std.proofs.Common.{◌≡◌, ℕ, ◌+◌, ◌*◌, ◌%◌, ◌^◌, ◌<◌, ◌≤◌, zero, suc, List, [], ◌∷◌, ◌++◌, length, take, drop, refl, sym, ap, subst, ◌∙◌, arith}
 use Rattle.std.proofs.lemmas.List.{append-nil, append_assoc, length-append, length-replicate, drop_at, take-append-le, take_all}
-use Rattle.byteorder.specs.Endian.{big_number, big_bytes}
-use Rattle.byteorder.specs.Numbers.{big_number-reads_back, length-bytes_high_first}
+use Rattle.byteorder.specs.{Endian.big_number, Endian.big_bytes, Numbers.big_number-reads_back, Numbers.length-bytes_high_first}
 use Rattle.of_messages.specs.Written.{message}
 use Rattle.of_laws.specs.Cells.{StructCell, byte, number, plain, pad, even, u16_cell, u32_cell, cell_width, IsCell, Begins, FitsCells, canonical_cell as text}
 use Rattle.of_laws.proofs.Places.{size}

@@ -1,18 +1,11 @@
 -- What is written of a message encodes it.
-use Rattle.std.proofs.lemmas.List.{append_assoc, append-nil, length-append}
 use Rattle.std.proofs.Common.{◌≡◌, ℕ, ◌+◌, ◌^◌, ◌<◌, ◌≤◌, List, [], ◌∷◌, ◌++◌, length, Result, Ok, Err, refl, sym, ap, subst, ◌∙◌, arith}
-use Rattle.std.specs.Prelude.{IfOk, OnOk}
-use Rattle.std.specs.declared.alloc.AllocError.{AllocError}
-use Rattle.of_messages.specs.Written.{IsMessage, message_header, message}
-use Rattle.of_messages.specs.declared.message.Message.{Message}
+use Rattle.std.{specs.Prelude.IfOk, specs.Prelude.OnOk, specs.declared.alloc.AllocError.AllocError, proofs.lemmas.List.append_assoc, proofs.lemmas.List.append-nil, proofs.lemmas.List.length-append}
 use Rattle.of_messages.specs.declared.message.Message.TheVariants.{Hello, Error, EchoRequest, EchoReply, FeaturesRequest, GetConfigRequest, SetConfig, PacketOut as IsPacketOut, FlowMod as IsFlowMod, GroupMod as IsGroupMod, PortMod as IsPortMod, TableMod as IsTableMod, Multipart, BarrierRequest, RoleRequest as IsRoleRequest, GetAsyncRequest, SetAsync}
-use Rattle.of_messages.proofs.Lengths.{is_message}
+use Rattle.of_messages.{specs.Written.IsMessage, specs.Written.message_header, specs.Written.message, specs.declared.message.Message.Message, proofs.Lengths.is_message}
 use Rattle.of_laws.specs.Cells.{StructCell, byte, u16_cell, u32_cell, Begins, FitsCells, canonical_cells}
 use Rattle.of_laws.specs.Grammar.{type, version, message_cells, Tail, IsValid, Encodes}
-use Rattle.of_laws.proofs.Places.{size}
-use Rattle.of_laws.proofs.Writings.{fronted, length-encoding}
-use Rattle.of_laws.specs.Canonical.{canonical_message, canonical_tail}
-use Rattle.of_laws.specs.Written.{IsWritten}
+use Rattle.of_laws.{specs.Canonical.canonical_message, specs.Canonical.canonical_tail, specs.Written.IsWritten, proofs.Places.size, proofs.Writings.fronted, proofs.Writings.length-encoding}
 
 type_fits : (m : Message) → type m < 256
 type_fits Hello = omega arith

@@ -1,49 +1,29 @@
 -- What is written of a PACKET_OUT, a FLOW_MOD, a GROUP_MOD and a MULTIPART_REQUEST encodes it.
 use Rattle.std.proofs.Common.{◌≡◌, ℕ, ◌+◌, ◌^◌, ◌<◌, ◌≤◌, Bool, true, false, not, eqb, ltb, leb, List, [], ◌∷◌, ◌++◌, length, map, Option, Some, None, refl, sym, ap, subst, ◌∙◌, arith}
-use Rattle.std.specs.Prelude.{◌&&◌, replicate, unwrap_or}
-use Rattle.std.specs.List.{list_all}
-use Rattle.std.proofs.lemmas.Bool.{eqb-true, eqb-false}
-use Rattle.std.proofs.lemmas.Bool.Decides.{nat_tests}
-use Rattle.std.proofs.lemmas.List.{append-nil, length-append}
+use Rattle.std.{specs.Prelude.◌&&◌, specs.Prelude.replicate, specs.Prelude.unwrap_or, specs.List.list_all, proofs.lemmas.Bool.eqb-true, proofs.lemmas.Bool.eqb-false}
+use Rattle.std.proofs.{lemmas.Bool.Decides.nat_tests, lemmas.List.append-nil, lemmas.List.length-append}
 use Rattle.of_wire.specs.declared.limits.TheConstants.{OFPG_ALL, OFPG_MAX, OFPP_ANY}
 use Rattle.byteorder.specs.Endian.{big_bytes}
-use Rattle.of_oxm.specs.Canonical.{canonical as canonical_match}
-use Rattle.of_oxm.specs.NormalForm.{IsMatch}
-use Rattle.of_oxm.proofs.Written.{canonical_short, canonical_encodes}
-use Rattle.of_actions.specs.Actions.{AreActions}
-use Rattle.of_actions.specs.CanonicalActions.{canonical_actions}
-use Rattle.of_actions.specs.CanonicalInstructions.{canonical_instructions}
-use Rattle.of_actions.specs.InstructionLists.{are_for, are_kept}
+use Rattle.of_oxm.{specs.Canonical.canonical as canonical_match, specs.NormalForm.IsMatch, proofs.Written.canonical_short, proofs.Written.canonical_encodes}
+use Rattle.of_actions.specs.{Actions.AreActions, CanonicalActions.canonical_actions, CanonicalInstructions.canonical_instructions, InstructionLists.are_for, InstructionLists.are_kept}
 use Rattle.of_actions.specs.declared.instruction.Instruction.{Instruction}
-use Rattle.of_groups.specs.Buckets.{are_fit, fresh, is_fit}
-use Rattle.of_groups.specs.declared.bucket.Bucket.{Bucket}
-use Rattle.of_messages.specs.CanonicalGroups.{canonical_buckets, has_numbers}
-use Rattle.of_messages.specs.Messages.{is_delete}
-use Rattle.of_messages.specs.Written.{message_header, message, flow_mod_bytes}
-use Rattle.of_messages.specs.declared.group_mod.NewGroup.{NewGroup}
-use Rattle.of_messages.specs.declared.group_mod.GroupMod.TheVariants as group
-use Rattle.of_messages.specs.declared.message.FlowMod.{FlowMod}
-use Rattle.of_messages.specs.declared.message.FlowModCommand.{FlowModCommand}
+use Rattle.of_groups.specs.{Buckets.are_fit, Buckets.fresh, Buckets.is_fit, declared.bucket.Bucket.Bucket}
+use Rattle.of_messages.specs.{CanonicalGroups.canonical_buckets, CanonicalGroups.has_numbers, Messages.is_delete, Written.message_header, Written.message, Written.flow_mod_bytes}
+use Rattle.of_messages.specs.{declared.group_mod.NewGroup.NewGroup, declared.message.FlowMod.FlowMod, declared.message.FlowModCommand.FlowModCommand}
 use Rattle.of_messages.specs.declared.message.FlowModCommand.TheVariants.{Add, Modify as Modifies, Delete as Deletes}
 use Rattle.of_messages.specs.declared.message.Message.TheVariants.{PacketOut as IsPacketOut, FlowMod as IsFlowMod, GroupMod as IsGroupMod, Multipart}
-use Rattle.of_messages.specs.declared.message.PacketData.{PacketData}
-use Rattle.of_messages.specs.declared.message.PacketData.TheVariants.{Buffered, Frame}
-use Rattle.of_messages.specs.declared.message.PacketOut.{PacketOut}
-use Rattle.of_messages.specs.declared.multipart.FlowStatsRequest.{FlowStatsRequest}
+use Rattle.of_messages.specs.{declared.message.PacketData.PacketData, declared.message.PacketData.TheVariants.Buffered, declared.message.PacketData.TheVariants.Frame}
+use Rattle.of_messages.specs.{declared.message.PacketOut.PacketOut, declared.multipart.FlowStatsRequest.FlowStatsRequest}
 use Rattle.of_messages.specs.declared.multipart.MultipartRequest.TheVariants.{Flow, Aggregate, PortStats, Group}
 use Rattle.of_messages.proofs.BucketsWritten.{buckets_short}
-use Rattle.of_laws.specs.Buckets.{AreBuckets}
+use Rattle.of_messages.specs.declared.group_mod.GroupMod.TheVariants as group
 use Rattle.of_laws.specs.Cells.{u16_cell, u32_cell, even, pad, FitsCells, canonical_cells}
 use Rattle.of_laws.specs.Grammar.{IsData, IsValidData, IsValidFlowMod, IsValidNumber, MayName, Encodes, buffer_of, deletes, flow_mod_cells, group_cells}
-use Rattle.of_laws.specs.Requests.{BeginsMatch, IsOne, flows_cells, or_all}
-use Rattle.of_laws.proofs.FoundLarge.{frame_fits, ingress}
-use Rattle.of_laws.proofs.FoundSmall.{named}
-use Rattle.of_laws.proofs.Writings.{written}
-use Rattle.of_laws.proofs.WrittenRequests.{beginning_is, buckets_encoded, flow_mod_encoded}
-use Rattle.of_laws.specs.Canonical.{canonical_message, packet_data_bytes}
 use Rattle.of_laws.specs.Sound.{counts_nothing, has_no_instructions, is_one, is_sound, is_sound_command, is_sound_group, is_sound_number, is_sound_packet}
-use Rattle.of_laws.specs.Written.{IsWritten}
 use Rattle.of_laws.proofs.Written.{Parts, body, fields_written, six, three, whole_written}
+use Rattle.of_laws.specs.{Buckets.AreBuckets, Requests.BeginsMatch, Requests.IsOne, Requests.flows_cells, Requests.or_all, Canonical.canonical_message, Canonical.packet_data_bytes}
+use Rattle.of_laws.{specs.Written.IsWritten, proofs.FoundLarge.frame_fits, proofs.FoundLarge.ingress, proofs.FoundSmall.named, proofs.Writings.written}
+use Rattle.of_laws.proofs.WrittenRequests.{beginning_is, buckets_encoded, flow_mod_encoded}
 
 -- the first and the second of two tests
 pub first : (a b : Bool) → (a && b) ≡ true → a ≡ true

@@ -1,29 +1,24 @@
 -- Replies that are written are encoded.
 use Rattle.std.proofs.Common.{◌≡◌, ◌≤◌, ◌<◌, ◌^◌, ◌-◌, ℕ, Bool, true, false, List, [], ◌∷◌, ◌++◌, length, map, refl, sym, ap, subst, arith}
-use Rattle.std.specs.Prelude.{codes, replicate, Option}
-use Rattle.std.specs.List.{All, concat, flat_map}
-use Rattle.std.proofs.lemmas.List.{append-nil, length-append, length-replicate}
-use Rattle.std.proofs.lemmas.List.Elements.{recursion_from_All}
+use Rattle.std.specs.{Prelude.codes, Prelude.replicate, Prelude.Option, List.All, List.concat, List.flat_map}
+use Rattle.std.proofs.{lemmas.List.append-nil, lemmas.List.length-append, lemmas.List.length-replicate, lemmas.List.Elements.recursion_from_All}
 use Rattle.byteorder.specs.Endian.{big_bytes}
 use Rattle.of_groups.specs.declared.group.Group.{Group}
 use Rattle.of_messages.specs.Written.{port_bytes}
 use Rattle.of_ports.specs.declared.port.Port.{Port}
-use Rattle.of_table.specs.declared.selection.Selector.{Selector}
-use Rattle.of_table.specs.Tables.{Tables}
-use Rattle.of_statistics.specs.Descriptions.{description as description_body, description_bytes, padded_text}
+use Rattle.of_table.specs.{declared.selection.Selector.Selector, Tables.Tables}
 use Rattle.of_statistics.specs.Flows.{aggregate as aggregate_body, aggregate_bytes, asked, flow_bytes, flow_row, from_tables, entries_with_tables, table_bytes, table_row, totals}
 use Rattle.of_statistics.specs.Groups.{asked_groups, group_bytes, group_description, group_description_bytes, group_features_body as features_body, group_features_bytes, row_among}
 use Rattle.of_statistics.specs.Ports.{asked_ports, described, port_description_bytes, port_row, port_stats_bytes}
-use Rattle.of_statistics.specs.Replies.{most, reply}
 use Rattle.of_statistics.proofs.Sizes.{length_aggregate, length_description, length_features, length_tables, stats_short}
-use Rattle.of_laws.specs.Cells.{StructCell, FitsCells, u16_cell, pad}
-use Rattle.of_laws.specs.Told.{port_cells}
+use Rattle.of_statistics.specs.{Descriptions.description as description_body, Descriptions.description_bytes, Descriptions.padded_text, Replies.most, Replies.reply}
 use Rattle.of_laws.specs.Replied.{Reply, EncodeAll, EncodesReply, ReplyTail, aggregate, described_groups, described_ports, description, description_cells, group_features_cells, flags, flows, group_features, groups, ports, reply_cells, reply_type, tables}
 use Rattle.of_laws.specs.ReplyRows.{AreReplyRows, IsDescribed, IsDescribedPort, IsFlow, IsGroupRow, IsPort, port_stats_cells, table_cells}
 use Rattle.of_laws.specs.Shown.{aggregate_shown, flow_shown, group_described, group_shown, IsDescribable, IsShownFlow, IsShownGroup, port_shown, tables_shown}
+use Rattle.of_laws.proofs.WrittenReplyRows.{flow_short, flow_written, length_ports, port_described, port_written, tables_written}
+use Rattle.of_laws.specs.{Cells.StructCell, Cells.FitsCells, Cells.u16_cell, Cells.pad, Told.port_cells}
 use Rattle.of_laws.proofs.ManyReplyRows.{IsEncoded, flat_is, rows_written, encode_all}
 use Rattle.of_laws.proofs.WrittenReplyGroups.{described_short, group_described_so, group_short, group_written}
-use Rattle.of_laws.proofs.WrittenReplyRows.{flow_short, flow_written, length_ports, port_described, port_written, tables_written}
 use Rattle.of_laws.proofs.Writings.{fronted, encoding}
 
 -- ---- a reply

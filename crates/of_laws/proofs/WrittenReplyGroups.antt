@@ -1,21 +1,14 @@
 -- Rows of groups that are written are encoded.
 use Rattle.std.proofs.Common.{◌≡◌, ◌≤◌, ◌<◌, ◌^◌, ℕ, ◌+◌, ◌*◌, true, List, [], ◌∷◌, ◌++◌, length, map, refl, ap, ◌∙◌, arith}
-use Rattle.std.specs.List.{flat_map, list_all}
-use Rattle.std.proofs.lemmas.Bool.Decides.{nat_tests}
-use Rattle.std.proofs.lemmas.List.{append_assoc, length-map}
-use Rattle.of_groups.specs.Buckets.{are_fit, is_fit}
-use Rattle.of_groups.specs.declared.bucket.Bucket.{Bucket}
-use Rattle.of_groups.specs.declared.group.Group.{Group}
-use Rattle.of_messages.specs.CanonicalGroups.{canonical_buckets}
-use Rattle.of_messages.proofs.BucketsWritten.{buckets_short}
+use Rattle.std.{specs.List.flat_map, specs.List.list_all, proofs.lemmas.Bool.Decides.nat_tests, proofs.lemmas.List.append_assoc, proofs.lemmas.List.length-map}
+use Rattle.of_groups.specs.{Buckets.are_fit, Buckets.is_fit, declared.bucket.Bucket.Bucket, declared.group.Group.Group}
+use Rattle.of_messages.{specs.CanonicalGroups.canonical_buckets, proofs.BucketsWritten.buckets_short}
 use Rattle.of_table.specs.Tables.{Tables}
 use Rattle.of_statistics.specs.Groups.{bucket_row, group_description, group_row, references, row_among}
 use Rattle.of_statistics.proofs.GroupRows.{group_row_short}
-use Rattle.of_laws.specs.Cells.{u16_cell}
-use Rattle.of_laws.proofs.Writings.{encoding, written}
-use Rattle.of_laws.proofs.WrittenRequests.{buckets_encoded, kind_fits, kind_same}
 use Rattle.of_laws.specs.ReplyRows.{BucketStats, IsGroupRow, group_stats_cells, bucket_stats_cells, IsDescribed, group_description_cells}
-use Rattle.of_laws.specs.Shown.{IsShownGroup, group_shown, IsDescribable, group_described}
+use Rattle.of_laws.specs.{Cells.u16_cell, Shown.IsShownGroup, Shown.group_shown, Shown.IsDescribable, Shown.group_described}
+use Rattle.of_laws.proofs.{Writings.encoding, Writings.written, WrittenRequests.buckets_encoded, WrittenRequests.kind_fits, WrittenRequests.kind_same}
 
 -- ---- GROUP
 

@@ -1,26 +1,15 @@
 -- Rows of entries, tables and ports that are written are encoded.
 use Rattle.std.proofs.Common.{◌≡◌, ◌≤◌, ◌<◌, ◌^◌, ℕ, suc, ◌+◌, ◌*◌, List, [], ◌∷◌, ◌++◌, length, refl, ap, arith}
-use Rattle.std.specs.Prelude.{replicate}
-use Rattle.std.specs.List.{flat_map, AllByRecursion as ByRecursion}
-use Rattle.std.proofs.lemmas.List.{append_assoc, length-append}
-use Rattle.of_oxm.specs.Canonical.{canonical}
-use Rattle.of_oxm.proofs.Written.{canonical_short, canonical_encodes}
-use Rattle.of_actions.specs.CanonicalInstructions.{canonical_instructions}
-use Rattle.of_actions.proofs.InstructionLengths.{instructions_short}
-use Rattle.of_actions.proofs.InstructionsAgain.{instructions_encoded}
-use Rattle.of_messages.specs.Written.{port_bits, port_bytes, port_names}
-use Rattle.of_messages.specs.declared.port_mod.PortDescription.{PortDescription}
+use Rattle.std.{specs.Prelude.replicate, specs.List.flat_map, specs.List.AllByRecursion as ByRecursion, proofs.lemmas.List.append_assoc, proofs.lemmas.List.length-append}
+use Rattle.of_oxm.{specs.Canonical.canonical, proofs.Written.canonical_short, proofs.Written.canonical_encodes}
+use Rattle.of_actions.{specs.CanonicalInstructions.canonical_instructions, proofs.InstructionLengths.instructions_short, proofs.InstructionsAgain.instructions_encoded}
+use Rattle.of_messages.specs.{Written.port_bits, Written.port_bytes, Written.port_names, declared.port_mod.PortDescription.PortDescription}
 use Rattle.of_ports.specs.declared.port.Port.{Port}
 use Rattle.of_table.specs.Table.{Table}
-use Rattle.of_statistics.specs.Flows.{EntryInTable, flow_row, from_tables, table_row}
-use Rattle.of_statistics.specs.Ports.{described, port_row}
-use Rattle.of_statistics.proofs.FlowRows.{row_short}
-use Rattle.of_laws.specs.Cells.{StructCell, FitsCells, u16_cell}
-use Rattle.of_laws.specs.Told.{port_cells}
-use Rattle.of_laws.proofs.Writings.{encoding, written}
+use Rattle.of_statistics.{specs.Flows.EntryInTable, specs.Flows.flow_row, specs.Flows.from_tables, specs.Flows.table_row, specs.Ports.described, specs.Ports.port_row, proofs.FlowRows.row_short}
 use Rattle.of_laws.specs.ReplyRows.{AreReplyRows, IsFlow, flow_cells, TableStats, IsTable, table_cells, IsPort, port_stats_cells, IsDescribedPort}
-use Rattle.of_laws.specs.Shown.{IsShownFlow, flow_shown, port_shown}
-use Rattle.of_laws.proofs.WrittenTold.{description_text}
+use Rattle.of_laws.specs.{Cells.StructCell, Cells.FitsCells, Cells.u16_cell, Told.port_cells, Shown.IsShownFlow, Shown.flow_shown, Shown.port_shown}
+use Rattle.of_laws.proofs.{Writings.encoding, Writings.written, WrittenTold.description_text}
 
 -- ---- FLOW
 

@@ -1,36 +1,20 @@
 -- A FLOW_MOD and a GROUP_MOD that are written are encoded.
 use Rattle.std.proofs.Common.{◌≡◌, ℕ, ◌+◌, ◌^◌, ◌<◌, ◌≤◌, true, false, List, [], ◌∷◌, ◌++◌, length, map, refl, arith}
-use Rattle.std.specs.List.{list_all}
-use Rattle.std.proofs.lemmas.Bool.Decides.{nat_tests}
-use Rattle.std.proofs.lemmas.List.{length-append, length-map}
-use Rattle.of_oxm.specs.Canonical.{canonical}
-use Rattle.of_oxm.specs.NormalForm.{IsMatch}
-use Rattle.of_oxm.proofs.Written.{canonical_short, canonical_encodes}
-use Rattle.of_actions.specs.CanonicalActions.{canonical_actions}
-use Rattle.of_actions.specs.CanonicalInstructions.{canonical_instructions}
-use Rattle.of_actions.specs.InstructionLists.{are_for, are_kept}
-use Rattle.of_actions.specs.Supported.{are_supported}
-use Rattle.of_actions.proofs.ActionsAgain.{canonical_encoded, canonical_short as actions_short}
-use Rattle.of_actions.proofs.InstructionLengths.{instructions_short}
-use Rattle.of_actions.proofs.InstructionsAgain.{instructions_encoded}
-use Rattle.of_groups.specs.Buckets.{are_fit, fresh, is_fit}
-use Rattle.of_groups.specs.declared.bucket.Bucket.{Bucket}
-use Rattle.of_groups.specs.declared.group.GroupKind.{GroupKind}
+use Rattle.std.{specs.List.list_all, proofs.lemmas.Bool.Decides.nat_tests, proofs.lemmas.List.length-append, proofs.lemmas.List.length-map}
+use Rattle.of_oxm.{specs.Canonical.canonical, specs.NormalForm.IsMatch, proofs.Written.canonical_short, proofs.Written.canonical_encodes}
+use Rattle.of_actions.specs.{CanonicalActions.canonical_actions, CanonicalInstructions.canonical_instructions, InstructionLists.are_for, InstructionLists.are_kept, Supported.are_supported}
+use Rattle.of_actions.proofs.{ActionsAgain.canonical_encoded, ActionsAgain.canonical_short as actions_short, InstructionLengths.instructions_short, InstructionsAgain.instructions_encoded}
+use Rattle.of_groups.specs.{Buckets.are_fit, Buckets.fresh, Buckets.is_fit, declared.bucket.Bucket.Bucket, declared.group.GroupKind.GroupKind}
 use Rattle.of_groups.specs.declared.group.GroupKind.TheVariants.{All, Indirect, FastFailover}
 use Rattle.of_groups.specs.Groups.{kind_number as number_of, kind_number}
 use Rattle.of_messages.specs.CanonicalGroups.{as_written, canonical_bucket, canonical_buckets, group_add_bytes, group_add_fixed_part, has_numbers}
-use Rattle.of_messages.specs.Written.{command_number as number_of_command, flow_mod_bytes, flow_mod_fixed_part, command_number}
-use Rattle.of_messages.specs.declared.group_mod.GroupMod.TheVariants as group
-use Rattle.of_messages.specs.declared.group_mod.NewGroup.{NewGroup}
-use Rattle.of_messages.specs.declared.message.FlowMod.{FlowMod}
-use Rattle.of_messages.specs.declared.message.FlowModCommand.{FlowModCommand}
+use Rattle.of_messages.specs.{Written.command_number as number_of_command, Written.flow_mod_bytes, Written.flow_mod_fixed_part, Written.command_number, declared.group_mod.NewGroup.NewGroup}
+use Rattle.of_messages.specs.{declared.message.FlowMod.FlowMod, declared.message.FlowModCommand.FlowModCommand}
 use Rattle.of_messages.specs.declared.message.FlowModCommand.TheVariants.{Add, Modify, Delete}
-use Rattle.of_messages.specs.declared.message.Message.TheVariants.{FlowMod as IsFlowMod, GroupMod as IsGroupMod}
-use Rattle.of_messages.proofs.BucketsWritten.{buckets_short}
-use Rattle.of_laws.specs.Buckets.{AreBuckets, bucket_cells}
-use Rattle.of_laws.specs.Cells.{FitsCells}
+use Rattle.of_messages.{specs.declared.message.Message.TheVariants.FlowMod as IsFlowMod, specs.declared.message.Message.TheVariants.GroupMod as IsGroupMod, proofs.BucketsWritten.buckets_short}
+use Rattle.of_messages.specs.declared.group_mod.GroupMod.TheVariants as group
 use Rattle.of_laws.specs.Grammar.{HasInstructions, IsValidFlowMod, MatchThenInstructions, Encodes, deletes, flow_mod_cells, group_cells}
-use Rattle.of_laws.proofs.Writings.{fronted, encoding, written}
+use Rattle.of_laws.{specs.Buckets.AreBuckets, specs.Buckets.bucket_cells, specs.Cells.FitsCells, proofs.Writings.fronted, proofs.Writings.encoding, proofs.Writings.written}
 
 -- ---- FLOW_MOD
 

@@ -1,32 +1,19 @@
 -- What a switch writes is encoded.
 use Rattle.std.proofs.Common.{◌≡◌, ℕ, ◌+◌, ◌^◌, ◌<◌, ◌≤◌, Bool, true, false, eqb, List, [], ◌∷◌, ◌++◌, length, cond, None, refl, sym, ap, ◌∙◌, arith}
-use Rattle.std.specs.Prelude.{replicate}
-use Rattle.std.proofs.lemmas.List.{append-nil, append_assoc, length-append}
+use Rattle.std.{specs.Prelude.replicate, proofs.lemmas.List.append-nil, proofs.lemmas.List.append_assoc, proofs.lemmas.List.length-append}
 use Rattle.byteorder.specs.Endian.{big_bytes}
 use Rattle.of_wire.specs.declared.code.Code.{Code}
-use Rattle.of_layers.specs.Fields.{row_of}
-use Rattle.of_layers.specs.declared.field.Field.{Field}
-use Rattle.of_layers.specs.declared.field.Field.TheVariants.{InPort, Metadata}
-use Rattle.of_oxm.specs.declared.match_field.MatchField.{MatchField}
-use Rattle.of_oxm.specs.Canonical.{canonical}
-use Rattle.of_oxm.specs.NormalForm.{IsKept, IsMatch}
-use Rattle.of_oxm.specs.Prerequisites.{prerequisites_met}
+use Rattle.of_layers.specs.{Fields.row_of, declared.field.Field.Field, declared.field.Field.TheVariants.InPort, declared.field.Field.TheVariants.Metadata}
+use Rattle.of_oxm.specs.{declared.match_field.MatchField.MatchField, Canonical.canonical, NormalForm.IsKept, NormalForm.IsMatch, Prerequisites.prerequisites_met}
 use Rattle.of_oxm.proofs.Written.{canonical_short, canonical_encodes}
-use Rattle.of_messages.specs.Roles.{role_number}
 use Rattle.of_messages.specs.Written.{message, hello_bytes, error_bytes, echo_reply_bytes, barrier_reply_bytes, features_body, features_reply_bytes, config_reply_bytes, async_reply_bytes, flow_removed_fixed_part, flow_removed_bytes, packet_fields, packet_in_fixed_part, packet_in_bytes, status_number, port_names, port_bits, port_bytes, port_status_bytes}
-use Rattle.of_messages.specs.declared.async_masks.AsyncMasks.{AsyncMasks}
-use Rattle.of_messages.specs.declared.config.SwitchConfig.{SwitchConfig}
-use Rattle.of_messages.specs.declared.message.FlowRemoved.{FlowRemoved}
-use Rattle.of_messages.specs.declared.message.PacketIn.{PacketIn}
-use Rattle.of_messages.specs.declared.port_mod.PortDescription.{PortDescription}
-use Rattle.of_messages.specs.declared.port_mod.PortStatusReason.{PortStatusReason}
-use Rattle.of_messages.specs.declared.port_mod.PortStatusReason.TheVariants as status
-use Rattle.of_messages.specs.declared.role.Role.{Role}
-use Rattle.of_messages.specs.declared.role.Role.TheVariants as role
+use Rattle.of_messages.specs.{Roles.role_number, declared.async_masks.AsyncMasks.AsyncMasks, declared.config.SwitchConfig.SwitchConfig, declared.message.FlowRemoved.FlowRemoved}
+use Rattle.of_messages.specs.{declared.message.PacketIn.PacketIn, declared.port_mod.PortDescription.PortDescription, declared.port_mod.PortStatusReason.PortStatusReason, declared.role.Role.Role}
 use Rattle.of_messages.proofs.PacketFields.{with_metadata, without_metadata}
-use Rattle.of_laws.specs.Cells.{FitsCells}
+use Rattle.of_messages.specs.declared.port_mod.PortStatusReason.TheVariants as status
+use Rattle.of_messages.specs.declared.role.Role.TheVariants as role
 use Rattle.of_laws.specs.Told.{Told, hello, error, echo_reply, features_reply, config_reply, packet_in, flow_removed, port_status, barrier_reply, role_reply, async_reply, switch_message_type, told_cells, told_fields, ToldTail, EncodesSwitchMessage, port_reason, role_value, removed_cells, packet_in_cells, port_cells}
-use Rattle.of_laws.proofs.Writings.{fronted, encoding}
+use Rattle.of_laws.{specs.Cells.FitsCells, proofs.Writings.fronted, proofs.Writings.encoding}
 
 type_fits : (t : Told) → switch_message_type t < 256
 type_fits (hello bitmap) = omega arith

@@ -1,15 +1,10 @@
 -- The structs of actions (OpenFlow 1.3.5, 7.2.5).
 use Rattle.std.specs.Prelude.{◌≡◌, ℕ, ◌+◌, ◌*◌, ◌-◌, List, [], ◌∷◌, drop, map}
 use Rattle.of_layers.specs.Fields.{bytes_of, number_of}
-use Rattle.of_actions.specs.declared.action.Action.{Action}
-use Rattle.of_actions.specs.declared.argument.Argument.{Argument}
 use Rattle.of_actions.specs.declared.argument.Argument.TheVariants.{Nothing, Byte, Tag, Word, Port, Field}
-use Rattle.of_actions.specs.declared.rows.TheConstants.{ACTIONS}
-use Rattle.of_actions.specs.Rows.{said}
-use Rattle.of_actions.specs.SetField.{set_len}
+use Rattle.of_actions.specs.{declared.action.Action.Action, declared.argument.Argument.Argument, declared.rows.TheConstants.ACTIONS, Rows.said, SetField.set_len}
 use Rattle.of_formats.specs.Tables as tables
-use Rattle.of_laws.specs.Cells.{StructCell, u16_cell, Begins}
-use Rattle.of_laws.specs.StructCells.{cells_of}
+use Rattle.of_laws.specs.{Cells.StructCell, Cells.u16_cell, Cells.Begins, StructCells.cells_of}
 
 -- OFPAT_*
 abbrev pub action_type : Action → ℕ

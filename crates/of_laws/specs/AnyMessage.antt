@@ -2,9 +2,8 @@
 use Rattle.std.specs.Prelude.{ℕ, ⊤, Bool, List}
 use Rattle.of_messages.specs.declared.message.Message.{Message}
 use Rattle.of_messages.specs.declared.message.Message.TheVariants.{Hello, Error, EchoReply}
-use Rattle.of_laws.specs.Grammar.{Encodes}
 use Rattle.of_laws.specs.Told.{Told, EncodesSwitchMessage, hello, error, echo_reply}
-use Rattle.of_laws.specs.Replied.{Reply, EncodesReply}
+use Rattle.of_laws.specs.{Grammar.Encodes, Replied.Reply, Replied.EncodesReply}
 
 -- the bytes, all of them, encode a message with this transaction id
 pub data EncodesAny (xid : ℕ) (bytes : List ℕ) : Type 0 where

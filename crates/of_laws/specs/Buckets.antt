@@ -2,9 +2,8 @@
 use Rattle.std.specs.Prelude.{◌≡◌, ℕ, ◌%◌, ◌+◌, false, List, [], ◌∷◌, ◌++◌, length, None}
 use Rattle.of_actions.specs.Actions.{AreActions}
 use Rattle.of_groups.specs.declared.bucket.Bucket.{Bucket}
-use Rattle.of_laws.specs.StructCells.{cells_of}
+use Rattle.of_laws.specs.{StructCells.cells_of, Cells.StructCell, Cells.Begins}
 use Rattle.of_formats.specs.Tables as tables
-use Rattle.of_laws.specs.Cells.{StructCell, Begins}
 
 -- the length of the whole bucket, its weight, and what it watches
 abbrev pub bucket_cells : ℕ → Bucket → List StructCell

@@ -1,22 +1,13 @@
 -- THE CONFIGURATION THAT A LIST OF MESSAGES SAYS, beside each other: GROUP_MODs that add groups, in ascending order of number, and then FLOW_MODs that add flows (OpenFlow 1.3.5, 7.3.4.1 and 7.3.4.2); or the first of them that is at fault.
 use Rattle.std.specs.Prelude.{ℕ, ◌+◌, ◌==◌, ◌&&◌, nat_le, nat_lt, Bool, true, false, List, [], ◌∷◌, length, slice_index_or, Option, Some, None, Result, Ok, Err, if◌then◌else◌}
-use Rattle.of_wire.specs.declared.limits.TheConstants.{OFPG_MAX, OFP_NO_BUFFER}
-use Rattle.of_wire.specs.declared.code.Code.{Code}
-use Rattle.of_messages.specs.declared.message.Message.{Message}
-use Rattle.of_messages.specs.declared.message.Message.TheVariants.{FlowMod as AFlowMod, GroupMod as AGroupMod}
-use Rattle.of_messages.specs.declared.message.FlowMod.{FlowMod}
-use Rattle.of_messages.specs.declared.message.FlowModCommand.{FlowModCommand}
+use Rattle.of_wire.specs.{declared.limits.TheConstants.OFPG_MAX, declared.limits.TheConstants.OFP_NO_BUFFER, declared.code.Code.Code}
+use Rattle.of_messages.specs.{declared.message.Message.Message, declared.message.Message.TheVariants.FlowMod as AFlowMod, declared.message.Message.TheVariants.GroupMod as AGroupMod}
+use Rattle.of_messages.specs.{declared.message.FlowMod.FlowMod, declared.message.FlowModCommand.FlowModCommand, declared.group_mod.GroupMod.TheVariants.Add, Messages.message_of, Messages.type_of}
 use Rattle.of_messages.specs.declared.message.FlowModCommand.TheVariants as command
-use Rattle.of_messages.specs.declared.group_mod.GroupMod.TheVariants.{Add}
-use Rattle.of_messages.specs.Messages.{message_of, type_of}
-use Rattle.of_formats.specs.declared.messages.TheConstants.{GROUP_MOD}
-use Rattle.of_formats.specs.Structs.{numbers}
+use Rattle.of_formats.specs.{declared.messages.TheConstants.GROUP_MOD, Structs.numbers}
 use Rattle.of_formats.specs.Tables as tables
 use Rattle.of_groups.specs.declared.group.GroupKind.TheVariants.{All}
-use Rattle.of_text.specs.Groups.{TextGroup}
-use Rattle.of_text.specs.Flows.{Flow}
-use Rattle.of_text.specs.First.{first_refusal}
-use Rattle.of_text.specs.Configs.{Configuration, tables_of_flows}
+use Rattle.of_text.specs.{Groups.TextGroup, Flows.Flow, First.first_refusal, Configs.Configuration, Configs.tables_of_flows}
 use Rattle.of_build.specs.Listing.{new_group_text}
 use Rattle.of_laws.specs.declared.fault.ConfigFault.{ConfigFault}
 use Rattle.of_laws.specs.declared.fault.ConfigFault.TheVariants.{NoMemory, NotACommand, Refused}

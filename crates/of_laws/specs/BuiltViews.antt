@@ -1,17 +1,11 @@
 -- What the code keeps of messages while a configuration is built. No public clause cites this module.
 use Rattle.std.specs.Prelude.{◌≡◌, ◌<◌, ◌++◌, true, Option, Some, None}
-use Rattle.std.specs.Option.{option_map}
-use Rattle.std.specs.List.{AllByRecursion}
+use Rattle.std.specs.{Option.option_map, List.AllByRecursion}
 use Rattle.of_actions.specs.Rising.{is_ascending}
-use Rattle.of_text.specs.Groups.{group_rows}
-use Rattle.of_text.specs.Kept.{IsKeptFlow}
-use Rattle.of_text.specs.Rows.{Fits}
-use Rattle.of_text.specs.Views.{view, view_group, view_groups, view_flows}
-use Rattle.of_laws.specs.declared.fault.ConfigFault.{ConfigFault}
-use Rattle.of_laws.specs.declared.building.Said.{Said as Declared}
-use Rattle.of_laws.specs.declared.building.Said.TheVariants as variants
-use Rattle.of_laws.specs.declared.building.Listed.{Listed as InMemory}
+use Rattle.of_text.specs.{Groups.group_rows, Kept.IsKeptFlow, Rows.Fits, Views.view, Views.view_group, Views.view_groups, Views.view_flows}
 use Rattle.of_laws.specs.Built.{Said, IsGroup, IsFlow, Other, Bad, Listed}
+use Rattle.of_laws.specs.{declared.fault.ConfigFault.ConfigFault, declared.building.Said.Said as Declared, declared.building.Listed.Listed as InMemory}
+use Rattle.of_laws.specs.declared.building.Said.TheVariants as variants
 
 abbrev pub view_said : Declared → Said
 view_said (variants.Group g) = IsGroup (view_group g)

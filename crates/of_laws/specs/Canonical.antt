@@ -1,20 +1,14 @@
 -- The one encoding of each message of a controller that is written (OpenFlow 1.3.5, 7): its fields, with zeros for padding and for what is ignored, and then its match, actions, instructions or buckets in theirs.
 use Rattle.std.specs.Prelude.{ℕ, List, [], ◌∷◌, ◌++◌, length, drop}
 use Rattle.of_oxm.specs.Canonical.{canonical as canonical_match}
-use Rattle.of_actions.specs.CanonicalActions.{canonical_actions}
-use Rattle.of_actions.specs.CanonicalInstructions.{canonical_instructions}
-use Rattle.of_messages.specs.CanonicalGroups.{canonical_buckets}
-use Rattle.of_messages.specs.Written.{message}
-use Rattle.of_messages.specs.declared.group_mod.GroupMod.TheVariants as group
-use Rattle.of_messages.specs.declared.message.Message.{Message}
+use Rattle.of_actions.specs.{CanonicalActions.canonical_actions, CanonicalInstructions.canonical_instructions}
 use Rattle.of_messages.specs.declared.message.Message.TheVariants.{EchoRequest, PacketOut as IsPacketOut, FlowMod as IsFlowMod, GroupMod as IsGroupMod, Multipart}
-use Rattle.of_messages.specs.declared.message.PacketData.{PacketData}
+use Rattle.of_messages.specs.{CanonicalGroups.canonical_buckets, Written.message, declared.message.Message.Message, declared.message.PacketData.PacketData}
 use Rattle.of_messages.specs.declared.message.PacketData.TheVariants.{Buffered, Frame}
 use Rattle.of_messages.specs.declared.multipart.MultipartRequest.TheVariants.{Flow, Aggregate}
+use Rattle.of_messages.specs.declared.group_mod.GroupMod.TheVariants as group
 use Rattle.of_formats.specs.Tables as tables
-use Rattle.of_laws.specs.Cells.{canonical_cells}
-use Rattle.of_laws.specs.Grammar.{type, message_cells}
-use Rattle.of_laws.specs.StructCells.{cells_of}
+use Rattle.of_laws.specs.{Cells.canonical_cells, Grammar.type, Grammar.message_cells, StructCells.cells_of}
 
 -- nothing follows the actions where the packet is held by the switch
 abbrev pub packet_data_bytes : PacketData → List ℕ

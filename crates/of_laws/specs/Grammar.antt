@@ -3,34 +3,23 @@ use Rattle.std.specs.Prelude.{◌≡◌, ◌≤◌, ◌<◌, ℕ, bit_and, ◌�
 use Rattle.of_groups.specs.Groups.{kind_number}
 use Rattle.of_wire.specs.declared.limits.TheConstants.{OFP_NO_BUFFER, OFPG_ALL, OFPG_MAX, OFPP_CONTROLLER, OFPP_MAX}
 use Rattle.of_oxm.specs.MatchGrammar.{EncodesMatch}
-use Rattle.of_actions.specs.Actions.{AreActions}
-use Rattle.of_actions.specs.FlowCheck.{all_go_with}
-use Rattle.of_actions.specs.Instructions.{EncodesInstructions}
-use Rattle.of_messages.specs.Heads.{changes_by}
-use Rattle.of_messages.specs.declared.async_masks.AsyncMasks.{AsyncMasks}
-use Rattle.of_messages.specs.declared.group_mod.GroupMod.{GroupMod}
-use Rattle.of_messages.specs.declared.group_mod.GroupMod.TheVariants as group
-use Rattle.of_messages.specs.declared.group_mod.NewGroup.{NewGroup}
-use Rattle.of_messages.specs.declared.message.FlowMod.{FlowMod}
-use Rattle.of_messages.specs.declared.message.FlowModCommand.{FlowModCommand}
-use Rattle.of_messages.specs.declared.message.FlowModCommand.TheVariants.{Add, Modify, Delete}
-use Rattle.of_messages.specs.declared.message.Message.{Message}
+use Rattle.of_actions.specs.{Actions.AreActions, FlowCheck.all_go_with, Instructions.EncodesInstructions}
 use Rattle.of_messages.specs.declared.message.Message.TheVariants.{Hello, Error, EchoRequest, EchoReply, FeaturesRequest, GetConfigRequest, SetConfig, PacketOut as IsPacketOut, FlowMod as IsFlowMod, GroupMod as IsGroupMod, PortMod as IsPortMod, TableMod as IsTableMod, Multipart, BarrierRequest, RoleRequest as IsRoleRequest, GetAsyncRequest, SetAsync}
-use Rattle.of_messages.specs.declared.message.PacketData.{PacketData}
-use Rattle.of_messages.specs.declared.message.PacketData.TheVariants.{Buffered, Frame}
-use Rattle.of_messages.specs.declared.message.PacketOut.{PacketOut}
-use Rattle.of_messages.specs.declared.role.Role.{Role}
-use Rattle.of_messages.specs.declared.role.Role.TheVariants as role
+use Rattle.of_messages.specs.{Heads.changes_by, declared.async_masks.AsyncMasks.AsyncMasks, declared.group_mod.GroupMod.GroupMod, declared.group_mod.NewGroup.NewGroup}
+use Rattle.of_messages.specs.{declared.message.FlowMod.FlowMod, declared.message.FlowModCommand.FlowModCommand}
+use Rattle.of_messages.specs.declared.message.FlowModCommand.TheVariants.{Add, Modify, Delete}
+use Rattle.of_messages.specs.{declared.message.Message.Message, declared.message.PacketData.PacketData}
+use Rattle.of_messages.specs.{declared.message.PacketData.TheVariants.Buffered, declared.message.PacketData.TheVariants.Frame, declared.message.PacketOut.PacketOut, declared.role.Role.Role}
 use Rattle.of_messages.specs.declared.role.RoleRequest.{RoleRequest}
 use Rattle.of_messages.specs.declared.role.RoleRequest.TheVariants.{NoChange, Equal, Master, Slave}
 use Rattle.of_messages.specs.Written.{flow_mod_numbers}
+use Rattle.of_messages.specs.declared.group_mod.GroupMod.TheVariants as group
+use Rattle.of_messages.specs.declared.role.Role.TheVariants as role
 use Rattle.of_formats.specs.declared.messages.TheConstants.{BARRIER_REQUEST, ECHO_REPLY, ECHO_REQUEST, ERROR, FEATURES_REQUEST, FLOW_MOD, GET_ASYNC_REQUEST, GET_CONFIG_REQUEST, GROUP_MOD, HELLO, MULTIPART_REQUEST, PACKET_OUT, PORT_MOD, ROLE_REQUEST, SET_ASYNC, SET_CONFIG, TABLE_MOD}
 use Rattle.of_formats.specs.Messages.{message_row}
-use Rattle.of_laws.specs.Buckets.{AreBuckets}
-use Rattle.of_laws.specs.StructCells.{cells_of, without_field}
-use Rattle.of_formats.specs.Tables as tables
-use Rattle.of_laws.specs.Cells.{StructCell, byte, pad, Begins}
 use Rattle.of_laws.specs.Requests.{NamesTable, or_all, request_cells, RequestTail, IsValidRequest}
+use Rattle.of_laws.specs.{Buckets.AreBuckets, StructCells.cells_of, StructCells.without_field, Cells.StructCell, Cells.byte, Cells.pad, Cells.Begins}
+use Rattle.of_formats.specs.Tables as tables
 
 -- THE HEADER (7.1, struct ofp_header)
 

@@ -1,14 +1,10 @@
 -- The structs of instructions (OpenFlow 1.3.5, 7.2.4).
 use Rattle.std.specs.Prelude.{◌≡◌, ℕ, ◌+◌, true, List, [], ◌∷◌, ◌++◌, length}
 use Rattle.of_wire.specs.Numbered.{is_distinct}
-use Rattle.of_actions.specs.declared.action.Action.{Action}
-use Rattle.of_actions.specs.declared.instruction.Instruction.{Instruction}
 use Rattle.of_actions.specs.declared.instruction.Instruction.TheVariants.{Apply, Clear, Write, Metadata, Goto}
-use Rattle.of_actions.specs.RunOrder.{in_run_order}
-use Rattle.of_laws.specs.ActionStructs.{AreStructs}
-use Rattle.of_laws.specs.StructCells.{cells_of}
+use Rattle.of_actions.specs.{declared.action.Action.Action, declared.instruction.Instruction.Instruction, RunOrder.in_run_order}
+use Rattle.of_laws.specs.{ActionStructs.AreStructs, StructCells.cells_of, Cells.StructCell, Cells.Begins}
 use Rattle.of_formats.specs.Tables as tables
-use Rattle.of_laws.specs.Cells.{StructCell, Begins}
 
 -- OFPIT_*
 abbrev pub instruction_type : Instruction → ℕ

@@ -1,7 +1,6 @@
 -- How the sending of messages ends, in words: all are taken by the switch, or those before the first that is not.
 use Rattle.std.specs.Prelude.{◌≡◌, ℕ, true, List, [], ◌∷◌, ◌++◌, length, None}
-use Rattle.of_switch.specs.State.{State}
-use Rattle.of_switch.specs.Runs.{chunk_in}
+use Rattle.of_switch.specs.{State.State, Runs.chunk_in}
 use Rattle.of_laws.specs.Sending.{error_in, greeted, is_command}
 
 -- THE SWITCH TAKES THE MESSAGES, one by one, and is then this one: each is a command, and none is answered by an ERROR

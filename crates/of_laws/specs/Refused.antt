@@ -2,26 +2,13 @@
 use Rattle.std.specs.Prelude.{◌≡◌, ℕ, ◌++◌, ◌^◌, ◌<◌, nat_lt, Bool, true, bit_and, ◌⊎◌, List, ◌∷◌, length, Option, Some, None, Result, Ok, Err}
 use Rattle.std.specs.List.{AllByRecursion}
 use Rattle.of_wire.specs.declared.limits.TheConstants.{ENTRY_FLAGS, FLOW_MOD_FLAGS, OFPG_MAX}
-use Rattle.of_oxm.specs.Canonical.{canonical}
-use Rattle.of_oxm.specs.NormalForm.{IsAscending}
-use Rattle.of_oxm.specs.declared.match_field.MatchField.{MatchField}
-use Rattle.of_actions.specs.declared.instruction.Instruction.{Instruction}
+use Rattle.of_wire.specs.{declared.codes.TheConstants.OFPGMFC_INVALID_GROUP, declared.code.Code.Code}
+use Rattle.of_oxm.specs.{Canonical.canonical, NormalForm.IsAscending, declared.match_field.MatchField.MatchField}
 use Rattle.of_actions.specs.declared.instruction.Instruction.TheVariants.{Apply, Clear, Write, Metadata, Goto}
-use Rattle.of_actions.specs.CanonicalInstructions.{canonical_instructions}
-use Rattle.of_actions.specs.InstructionLists.{run_place}
-use Rattle.of_actions.specs.Rising.{is_ascending}
-use Rattle.of_text.specs.Flows.{Flow}
-use Rattle.of_text.specs.Rows.{ActionFits, BucketFits, FieldFits, HeadFits}
-use Rattle.of_wire.specs.declared.codes.TheConstants.{OFPGMFC_INVALID_GROUP}
-use Rattle.of_wire.specs.declared.code.Code.{Code}
-use Rattle.of_messages.specs.CanonicalGroups.{canonical_buckets}
-use Rattle.of_messages.specs.declared.group_mod.NewGroup.{NewGroup}
-use Rattle.of_messages.specs.declared.group_mod.GroupMod.TheVariants.{Add}
-use Rattle.of_text.specs.Groups.{TextBucket, TextGroup, buckets_of}
-use Rattle.of_text.specs.Refusals.{buckets_refusals}
-use Rattle.of_messages.specs.declared.message.FlowMod.{FlowMod}
-use Rattle.of_messages.specs.declared.message.Message.{Message}
-use Rattle.of_messages.specs.declared.message.Message.TheVariants.{FlowMod as IsFlowMod, GroupMod as IsGroupMod}
+use Rattle.of_actions.specs.{declared.instruction.Instruction.Instruction, CanonicalInstructions.canonical_instructions, InstructionLists.run_place, Rising.is_ascending}
+use Rattle.of_text.specs.{Flows.Flow, Rows.ActionFits, Rows.BucketFits, Rows.FieldFits, Rows.HeadFits, Groups.TextBucket, Groups.TextGroup, Groups.buckets_of, Refusals.buckets_refusals}
+use Rattle.of_messages.specs.{CanonicalGroups.canonical_buckets, declared.group_mod.NewGroup.NewGroup, declared.group_mod.GroupMod.TheVariants.Add, declared.message.FlowMod.FlowMod}
+use Rattle.of_messages.specs.{declared.message.Message.Message, declared.message.Message.TheVariants.FlowMod as IsFlowMod, declared.message.Message.TheVariants.GroupMod as IsGroupMod}
 
 -- numbers fit their bytes
 abbrev pub InstructionFits : Instruction → Type 0

@@ -1,13 +1,10 @@
 -- MULTIPART_REPLY: which bytes encode which reply of this switch (OpenFlow 1.3.5, 7.3.5, struct ofp_multipart_reply).
 use Rattle.std.specs.Prelude.{◌≡◌, ℕ, ◌-◌, ◌^◌, Bool, true, false, List, [], ◌∷◌, ◌++◌, length, replicate, codes}
 use Rattle.std.specs.List.{sum_by}
-use Rattle.of_messages.specs.declared.group_mod.NewGroup.{NewGroup}
-use Rattle.of_messages.specs.declared.port_mod.PortDescription.{PortDescription}
-use Rattle.of_laws.specs.ActionStructs.{action_types}
-use Rattle.of_formats.specs.Tables as structs
-use Rattle.of_laws.specs.Cells.{StructCell, Begins}
-use Rattle.of_laws.specs.StructCells.{cells_of}
+use Rattle.of_messages.specs.{declared.group_mod.NewGroup.NewGroup, declared.port_mod.PortDescription.PortDescription}
 use Rattle.of_laws.specs.ReplyRows.{AreReplyRows, FlowStats, IsFlow, AggregateStats, TableStats, IsTable, PortStats, IsPort, GroupStats, IsGroupRow, IsDescribed, IsDescribedPort}
+use Rattle.of_laws.specs.{ActionStructs.action_types, Cells.StructCell, Cells.Begins, StructCells.cells_of}
+use Rattle.of_formats.specs.Tables as structs
 
 -- DESC, FLOW, AGGREGATE, TABLE, PORT_STATS, GROUP, GROUP_DESC, GROUP_FEATURES and PORT_DESC
 pub data Reply : Type 0 where

@@ -1,18 +1,12 @@
 -- The rows of replies to multipart requests: which bytes encode which row, whatever follows (OpenFlow 1.3.5, 7.3.5).
 use Rattle.std.specs.Prelude.{◌≡◌, ℕ, ◌+◌, ◌*◌, List, [], ◌∷◌, ◌++◌, length, drop}
 use Rattle.of_groups.specs.Groups.{kind_number}
-use Rattle.of_oxm.specs.declared.match_field.MatchField.{MatchField}
-use Rattle.of_oxm.specs.MatchGrammar.{EncodesMatch}
-use Rattle.of_actions.specs.declared.instruction.Instruction.{Instruction}
-use Rattle.of_actions.specs.Instructions.{EncodesInstructions}
+use Rattle.of_oxm.specs.{declared.match_field.MatchField.MatchField, MatchGrammar.EncodesMatch}
+use Rattle.of_actions.specs.{declared.instruction.Instruction.Instruction, Instructions.EncodesInstructions}
 use Rattle.of_ports.specs.declared.counters.PortCounters.{PortCounters}
-use Rattle.of_messages.specs.declared.group_mod.NewGroup.{NewGroup}
-use Rattle.of_messages.specs.declared.port_mod.PortDescription.{PortDescription}
-use Rattle.of_laws.specs.Buckets.{AreBuckets}
+use Rattle.of_messages.specs.{declared.group_mod.NewGroup.NewGroup, declared.port_mod.PortDescription.PortDescription}
+use Rattle.of_laws.specs.{Buckets.AreBuckets, Cells.StructCell, Cells.u16_cell, Cells.Begins, StructCells.cells_of, Told.port_cells}
 use Rattle.of_formats.specs.Tables as tables
-use Rattle.of_laws.specs.Cells.{StructCell, u16_cell, Begins}
-use Rattle.of_laws.specs.StructCells.{cells_of}
-use Rattle.of_laws.specs.Told.{port_cells}
 
 -- bytes are these rows, one after the other
 abbrev pub AreReplyRows : {X : Type 0} → (X → List ℕ → List ℕ → Type 0) → List X → List ℕ → Type 0

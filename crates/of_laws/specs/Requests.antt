@@ -1,14 +1,11 @@
 -- MULTIPART_REQUEST (OpenFlow 1.3.5, 7.3.5, struct ofp_multipart_request), and the bodies of its types.
 use Rattle.std.specs.Prelude.{◌≡◌, ◌<◌, ℕ, ◌⊎◌, ⊤, List, [], ◌∷◌, ◌++◌, Option, Some, None}
 use Rattle.of_wire.specs.declared.limits.TheConstants.{OFPP_ANY, OFPG_ALL}
-use Rattle.of_oxm.specs.declared.match_field.MatchField.{MatchField}
-use Rattle.of_oxm.specs.MatchGrammar.{EncodesMatch}
-use Rattle.of_messages.specs.declared.multipart.FlowStatsRequest.{FlowStatsRequest}
-use Rattle.of_messages.specs.declared.multipart.MultipartRequest.{MultipartRequest}
+use Rattle.of_oxm.specs.{declared.match_field.MatchField.MatchField, MatchGrammar.EncodesMatch}
 use Rattle.of_messages.specs.declared.multipart.MultipartRequest.TheVariants.{Description, Flow, Aggregate, Table, PortStats, Group, GroupDescription, GroupFeatures, PortDescription}
-use Rattle.of_laws.specs.StructCells.{cells_of}
+use Rattle.of_messages.specs.{declared.multipart.FlowStatsRequest.FlowStatsRequest, declared.multipart.MultipartRequest.MultipartRequest}
+use Rattle.of_laws.specs.{StructCells.cells_of, Cells.StructCell, Cells.u16_cell, Cells.pad, Cells.even}
 use Rattle.of_formats.specs.Tables as tables
-use Rattle.of_laws.specs.Cells.{StructCell, u16_cell, pad, even}
 
 -- the type of the request, OFPMP_*
 abbrev pub request_type : MultipartRequest → ℕ

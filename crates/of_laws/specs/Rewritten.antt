@@ -1,9 +1,7 @@
 -- THE FIELDS OF A FRAME AFTER AN ACTION, by those that it had (OpenFlow 1.3.5, 5.12 and 7.2.3.7).
 use Rattle.std.specs.Prelude.{ℕ, ◌+◌, ◌%◌, ◌^◌, ◌==◌, List, [], ◌∷◌, slice_index, Option, Some, None, if◌then◌else◌}
 use Rattle.std.specs.Option.{option_map}
-use Rattle.of_layers.specs.declared.field.Field.{Field}
-use Rattle.of_layers.specs.declared.field.Field.TheVariants.{VlanVid, VlanPcp}
-use Rattle.of_layers.specs.Fields.{bit_count, number_of}
+use Rattle.of_layers.specs.{declared.field.Field.Field, declared.field.Field.TheVariants.VlanVid, declared.field.Field.TheVariants.VlanPcp, Fields.bit_count, Fields.number_of}
 
 -- VLAN_VID with another VID: without a tag it stays 0, and with one it has the bit OFPVID_PRESENT
 abbrev pub vid_after : ℕ → ℕ → ℕ

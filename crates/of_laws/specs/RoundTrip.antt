@@ -3,11 +3,8 @@ use Rattle.std.specs.Prelude.{◌≡◌, ℕ, List, [], ◌∷◌, None, replica
 use Rattle.of_text.specs.Configs.{Configuration}
 use Rattle.of_messages.specs.Written.{hello_bytes}
 use Rattle.of_datapath.specs.declared.effect.Effect.TheVariants.{Answer}
-use Rattle.of_switch.specs.State.{start}
-use Rattle.of_switch.specs.Runs.{Gives, Run, run}
-use Rattle.of_switch.specs.Loading.{config_of, loaded}
-use Rattle.of_replay.specs.Lexing.{lines_of_file}
-use Rattle.of_replay.specs.Rows.{rows_of_lines}
+use Rattle.of_switch.specs.{State.start, Runs.Gives, Runs.Run, Runs.run, Loading.config_of, Loading.loaded}
+use Rattle.of_replay.specs.{Lexing.lines_of_file, Rows.rows_of_lines}
 
 -- the run of a file's events on a new switch with that datapath_id
 abbrev pub run_of_file : ℕ → List ℕ → Run

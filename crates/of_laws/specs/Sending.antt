@@ -4,18 +4,12 @@ use Rattle.byteorder.specs.Endian.{big_number}
 use Rattle.of_wire.specs.declared.code.Code.{Code}
 use Rattle.of_formats.specs.declared.messages.TheConstants.{ERROR, FLOW_MOD, GROUP_MOD}
 use Rattle.of_messages.specs.Heads.{type_of}
-use Rattle.of_session.specs.declared.session.Phase.TheVariants.{Open}
-use Rattle.of_session.specs.Stream.{length_of}
+use Rattle.of_session.specs.{declared.session.Phase.TheVariants.Open, Stream.length_of}
 use Rattle.of_text.specs.Configs.{Configuration}
 use Rattle.of_build.specs.Building.{hello}
-use Rattle.of_datapath.specs.declared.effect.Effect.{Effect}
-use Rattle.of_datapath.specs.declared.effect.Effect.TheVariants.{Answer, Sent, Closed}
-use Rattle.of_switch.specs.State.{State, start}
-use Rattle.of_switch.specs.Steps.{connected}
-use Rattle.of_switch.specs.Runs.{chunk_in}
-use Rattle.of_switch.specs.Loading.{config_of}
-use Rattle.of_laws.specs.declared.fault.ConfigFault.{ConfigFault}
-use Rattle.of_laws.specs.declared.fault.ConfigFault.TheVariants.{NotACommand, Refused}
+use Rattle.of_datapath.specs.{declared.effect.Effect.Effect, declared.effect.Effect.TheVariants.Answer, declared.effect.Effect.TheVariants.Sent, declared.effect.Effect.TheVariants.Closed}
+use Rattle.of_switch.specs.{State.State, State.start, Steps.connected, Runs.chunk_in, Loading.config_of}
+use Rattle.of_laws.specs.{declared.fault.ConfigFault.ConfigFault, declared.fault.ConfigFault.TheVariants.NotACommand, declared.fault.ConfigFault.TheVariants.Refused}
 
 -- ---- what is sent, and what answers it
 

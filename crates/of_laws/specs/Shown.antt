@@ -3,18 +3,13 @@ use Rattle.std.specs.Prelude.{◌≡◌, ◌<◌, ◌≤◌, ℕ, ◌%◌, ◌^�
 use Rattle.std.specs.List.{list_all}
 use Rattle.of_oxm.specs.NormalForm.{IsMatch}
 use Rattle.of_actions.specs.InstructionLists.{are_for, are_kept}
-use Rattle.of_groups.specs.Buckets.{are_fit}
-use Rattle.of_groups.specs.declared.group.Group.{Group}
-use Rattle.of_messages.specs.CanonicalGroups.{as_written, has_numbers}
-use Rattle.of_messages.specs.declared.group_mod.NewGroup.{NewGroup}
+use Rattle.of_groups.specs.{Buckets.are_fit, declared.group.Group.Group}
+use Rattle.of_messages.specs.{CanonicalGroups.as_written, CanonicalGroups.has_numbers, declared.group_mod.NewGroup.NewGroup}
 use Rattle.of_ports.specs.declared.port.Port.{Port}
-use Rattle.of_table.specs.Selecting.{seconds_since, nanoseconds_since}
-use Rattle.of_table.specs.Table.{FlowEntry, flags_number}
-use Rattle.of_table.specs.Tables.{Tables}
-use Rattle.of_statistics.specs.Flows.{EntryInTable, from_tables, totals}
-use Rattle.of_statistics.specs.Groups.{references}
-use Rattle.of_laws.specs.Cells.{FitsCells}
+use Rattle.of_table.specs.{Selecting.seconds_since, Selecting.nanoseconds_since, Table.FlowEntry, Table.flags_number, Tables.Tables}
+use Rattle.of_statistics.specs.{Flows.EntryInTable, Flows.from_tables, Flows.totals, Groups.references}
 use Rattle.of_laws.specs.ReplyRows.{FlowStats, flow_cells, AggregateStats, TableStats, PortStats, GroupStats, group_stats_cells, bucket_stats_cells}
+use Rattle.of_laws.specs.Cells.{FitsCells}
 
 -- an entry at a moment
 abbrev pub flow_shown : ℕ → EntryInTable → FlowStats

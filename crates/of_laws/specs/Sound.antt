@@ -3,22 +3,14 @@ use Rattle.std.specs.Prelude.{ℕ, ◌==◌, nat_lt, nat_le, Bool, true, false, 
 use Rattle.std.specs.List.{list_all}
 use Rattle.of_wire.specs.declared.limits.TheConstants.{OFPG_ALL, OFPG_MAX, OFPP_ANY, OFP_NO_BUFFER}
 use Rattle.of_headers.specs.Faults.{frame_fault}
-use Rattle.of_actions.specs.FlowCheck.{all_go_with}
-use Rattle.of_actions.specs.InstructionLists.{are_for}
-use Rattle.of_actions.specs.declared.instruction.Instruction.{Instruction}
+use Rattle.of_actions.specs.{FlowCheck.all_go_with, InstructionLists.are_for, declared.instruction.Instruction.Instruction}
 use Rattle.of_groups.specs.declared.bucket.Bucket.{Bucket}
-use Rattle.of_messages.specs.Configs.{names_table}
-use Rattle.of_messages.specs.Messages.{is_delete, is_ingress}
-use Rattle.of_messages.specs.declared.group_mod.GroupMod.{GroupMod}
-use Rattle.of_messages.specs.declared.group_mod.GroupMod.TheVariants as group
-use Rattle.of_messages.specs.declared.group_mod.NewGroup.{NewGroup}
-use Rattle.of_messages.specs.declared.message.FlowMod.{FlowMod}
-use Rattle.of_messages.specs.declared.message.Message.{Message}
 use Rattle.of_messages.specs.declared.message.Message.TheVariants.{EchoRequest, PacketOut as IsPacketOut, FlowMod as IsFlowMod, GroupMod as IsGroupMod, PortMod as IsPortMod, TableMod as IsTableMod, Multipart}
-use Rattle.of_messages.specs.declared.message.PacketData.{PacketData}
-use Rattle.of_messages.specs.declared.message.PacketData.TheVariants.{Buffered, Frame}
-use Rattle.of_messages.specs.declared.multipart.MultipartRequest.{MultipartRequest}
+use Rattle.of_messages.specs.{Configs.names_table, Messages.is_delete, Messages.is_ingress, declared.group_mod.GroupMod.GroupMod, declared.group_mod.NewGroup.NewGroup}
+use Rattle.of_messages.specs.{declared.message.FlowMod.FlowMod, declared.message.Message.Message, declared.message.PacketData.PacketData}
+use Rattle.of_messages.specs.{declared.message.PacketData.TheVariants.Buffered, declared.message.PacketData.TheVariants.Frame, declared.multipart.MultipartRequest.MultipartRequest}
 use Rattle.of_messages.specs.declared.multipart.MultipartRequest.TheVariants.{Flow, Aggregate, PortStats, Group}
+use Rattle.of_messages.specs.declared.group_mod.GroupMod.TheVariants as group
 
 -- a held packet has a number, and a frame 14 to 9,216 bytes
 abbrev pub is_sound_packet : PacketData → Bool

@@ -1,8 +1,6 @@
 -- THE NUMBERS OF THE STANDARD (OpenFlow 1.3.5), written apart from the tables that code and definitions read.
 use Rattle.std.specs.Prelude.{ℕ, Bool, true, false, List, [], ◌∷◌}
-use Rattle.of_formats.specs.declared.messages.Size.{Size}
-use Rattle.of_formats.specs.declared.messages.Size.TheVariants.{Exact, Least}
-use Rattle.of_formats.specs.declared.messages.Way.{Way}
+use Rattle.of_formats.specs.{declared.messages.Size.Size, declared.messages.Size.TheVariants.Exact, declared.messages.Size.TheVariants.Least, declared.messages.Way.Way}
 use Rattle.of_formats.specs.declared.messages.Way.TheVariants.{Both, Neither, Read, Sent}
 use Rattle.of_messages.specs.declared.message.FlowModCommand.{FlowModCommand}
 use Rattle.of_messages.specs.declared.message.FlowModCommand.TheVariants.{Add, Modify, Delete}

@@ -1,24 +1,15 @@
 -- WHAT A SWITCH SENDS: which bytes encode which message of this switch (OpenFlow 1.3.5, 7), except for the replies to multipart requests (Replied).
 use Rattle.std.specs.Prelude.{◌≡◌, ◌==◌, ℕ, if◌then◌else◌, List, [], ◌∷◌, ◌++◌, length, None}
-use Rattle.of_wire.specs.declared.code.Code.{Code}
-use Rattle.of_wire.specs.Reasons.{packet_in_number, flow_removed_number}
+use Rattle.of_wire.specs.{declared.code.Code.Code, Reasons.packet_in_number, Reasons.flow_removed_number}
 use Rattle.of_layers.specs.declared.field.Field.TheVariants.{InPort, Metadata}
-use Rattle.of_oxm.specs.declared.match_field.MatchField.{MatchField}
-use Rattle.of_oxm.specs.MatchGrammar.{EncodesMatch}
-use Rattle.of_messages.specs.declared.async_masks.AsyncMasks.{AsyncMasks}
-use Rattle.of_messages.specs.declared.config.SwitchConfig.{SwitchConfig}
-use Rattle.of_messages.specs.declared.message.FlowRemoved.{FlowRemoved}
-use Rattle.of_messages.specs.declared.message.PacketIn.{PacketIn}
-use Rattle.of_messages.specs.declared.port_mod.PortDescription.{PortDescription}
-use Rattle.of_messages.specs.declared.port_mod.PortStatusReason.{PortStatusReason}
+use Rattle.of_oxm.specs.{declared.match_field.MatchField.MatchField, MatchGrammar.EncodesMatch}
+use Rattle.of_messages.specs.{declared.async_masks.AsyncMasks.AsyncMasks, declared.config.SwitchConfig.SwitchConfig, declared.message.FlowRemoved.FlowRemoved, declared.message.PacketIn.PacketIn}
+use Rattle.of_messages.specs.{declared.port_mod.PortDescription.PortDescription, declared.port_mod.PortStatusReason.PortStatusReason, declared.role.Role.Role}
 use Rattle.of_messages.specs.declared.port_mod.PortStatusReason.TheVariants as status
-use Rattle.of_messages.specs.declared.role.Role.{Role}
 use Rattle.of_messages.specs.declared.role.Role.TheVariants as role
 use Rattle.of_formats.specs.declared.messages.TheConstants.{BARRIER_REPLY, ECHO_REPLY, ERROR, FEATURES_REPLY, FLOW_REMOVED, GET_ASYNC_REPLY, GET_CONFIG_REPLY, HELLO, PACKET_IN, PORT_STATUS, ROLE_REPLY}
-use Rattle.of_laws.specs.StructCells.{cells_of}
+use Rattle.of_laws.specs.{StructCells.cells_of, Cells.StructCell, Cells.pad, Cells.Begins, Grammar.async_config_cells}
 use Rattle.of_formats.specs.Tables as tables
-use Rattle.of_laws.specs.Cells.{StructCell, pad, Begins}
-use Rattle.of_laws.specs.Grammar.{async_config_cells}
 
 -- HELLO with a bitmap of versions, ERROR with its data, ECHO_REPLY with its data, FEATURES_REPLY with the datapath id, GET_CONFIG_REPLY, PACKET_IN with its data, FLOW_REMOVED with its match, PORT_STATUS, BARRIER_REPLY, ROLE_REPLY with its generation, and GET_ASYNC_REPLY
 pub data Told : Type 0 where

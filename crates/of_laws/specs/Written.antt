@@ -1,12 +1,8 @@
 -- What is written of a message.
 use Rattle.std.specs.Prelude.{◌≡◌, ℕ, List, [], ◌∷◌, take}
 use Rattle.of_formats.specs.Tables as tables
-use Rattle.of_messages.specs.declared.async_masks.RoleMasks.{RoleMasks}
-use Rattle.of_messages.specs.declared.message.Message.{Message}
-use Rattle.of_laws.specs.Cells.{StructCell}
-use Rattle.of_laws.specs.Grammar.{Encodes}
-use Rattle.of_laws.specs.StructCells.{cells_of}
-use Rattle.of_laws.specs.Canonical.{canonical_message}
+use Rattle.of_messages.specs.{declared.async_masks.RoleMasks.RoleMasks, declared.message.Message.Message}
+use Rattle.of_laws.specs.{Cells.StructCell, Grammar.Encodes, StructCells.cells_of, Canonical.canonical_message}
 
 -- its one encoding, which encodes it
 pub record IsWritten (xid : ℕ) (m : Message) (bytes : List ℕ) : Type 0 where

@@ -1,11 +1,7 @@
 //! The configuration that a list of messages says.
 ghost use Rattle.std.specs.Prelude.{◌≡◌, ◌⊎◌, ℕ, [], Ok, Err, Some, IfOk, IfSome, IfErr, OnOk};
-ghost use Rattle.std.specs.List.{AllByRecursion};
-ghost use Rattle.std.specs.Option.{option_map};
-ghost use Rattle.of_text.specs.Groups.{group_rows};
-ghost use Rattle.of_text.specs.Kept.{IsKeptFlow};
-ghost use Rattle.of_text.specs.Rows.{Fits};
-ghost use Rattle.of_text.specs.Views.{view, view_group};
+ghost use Rattle.std.specs.{List.AllByRecursion, Option.option_map};
+ghost use Rattle.of_text.specs.{Groups.group_rows, Kept.IsKeptFlow, Rows.Fits, Views.view, Views.view_group};
 ghost use Rattle.of_laws.specs.Built.{IsFlow, Listed as AllListed, added_by_message, config_listed, counted_group, group_listed, config_said, earlier, flow_said, listed_messages, listed_by, nothing_listed, fault_place as place_is, message_said};
 ghost use Rattle.of_laws.specs.BuiltViews.{IsSoundListed, IsSoundSaid, joined_with_later, or_later, view_said};
 

@@ -2,18 +2,12 @@
 ghost use Rattle.std.specs.Prelude.{◌≡◌, ◌++◌, ◌∷◌, ◌+◌, ◌≤◌, ◌^◌, [], ℕ, List, true, false, Ok, Err, length, take};
 ghost use Rattle.of_text.specs.Configs.{Configuration, IsConfig, all_flows};
 ghost use Rattle.of_wire.specs.declared.code.Code.{Code};
-ghost use Rattle.of_messages.specs.Heads.{xid_of};
-ghost use Rattle.of_messages.specs.Written.{error_bytes};
+ghost use Rattle.of_messages.specs.{Heads.xid_of, Written.error_bytes};
 ghost use Rattle.of_datapath.specs.declared.effect.Effect.TheVariants.{Answer};
-ghost use Rattle.of_switch.specs.State.{State};
-ghost use Rattle.of_switch.specs.Steps.{gives};
-ghost use Rattle.of_switch.specs.Runs.{chunk_in};
-ghost use Rattle.of_switch.specs.Loading.{config_of};
+ghost use Rattle.of_switch.specs.{State.State, Steps.gives, Runs.chunk_in, Loading.config_of};
 ghost use Rattle.of_laws.specs.declared.fault.ConfigFault.TheVariants.{NoMemory, NotACommand, Refused};
-ghost use Rattle.of_laws.specs.Outcomes.{ComesTo, TakesMessages};
-ghost use Rattle.of_laws.specs.Built.{config_said};
+ghost use Rattle.of_laws.specs.{Outcomes.ComesTo, Outcomes.TakesMessages, Built.config_said, Sending.config_by, Sending.greeted, Sending.is_command};
 ghost use Rattle.of_build.specs.Listing.{flow_adds, group_adds, messages_of};
-ghost use Rattle.of_laws.specs.Sending.{config_by, greeted, is_command};
 
 /// The configuration that the messages of a configuration give is that configuration.
 pub fn messages_give_it_back()

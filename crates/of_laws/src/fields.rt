@@ -1,10 +1,7 @@
 //! Laws of the fields of frames: which every frame has, and how large their values are.
 ghost use Rattle.std.specs.Prelude.{◌≡◌, ◌≤◌, ◌<◌, ◌^◌, ℕ, List, length, IsSome, Some};
 ghost use Rattle.std.specs.List.{All};
-ghost use Rattle.of_layers.specs.declared.field.Field.{Field};
-ghost use Rattle.of_layers.specs.Fields.{ones_of};
-ghost use Rattle.of_layers.specs.Reading.{layers_of};
-ghost use Rattle.of_layers.specs.WellFormed.{AreBytes};
+ghost use Rattle.of_layers.specs.{declared.field.Field.Field, Fields.ones_of, Reading.layers_of, WellFormed.AreBytes};
 ghost use Rattle.of_headers.specs.FieldMap.{field_map};
 ghost use Rattle.of_laws.specs.Always.{always};
 

@@ -1,10 +1,7 @@
 //! FLOW_MOD (OpenFlow 1.3.5, 7.3.4.1).
 ghost use Rattle.std.specs.Prelude.{◌≡◌, ◌<◌, ◌^◌, true, IfOk};
 ghost use Rattle.of_messages.specs.declared.message.Message.TheVariants.{FlowMod as IsFlowMod};
-ghost use Rattle.of_laws.specs.Cells.{FitsCells};
-ghost use Rattle.of_laws.specs.Grammar.{flow_mod_cells};
-ghost use Rattle.of_laws.specs.Sound.{is_sound};
-ghost use Rattle.of_laws.specs.Written.{IsWritten};
+ghost use Rattle.of_laws.specs.{Cells.FitsCells, Grammar.flow_mod_cells, Sound.is_sound, Written.IsWritten};
 
 use of_messages::{FlowMod, write_flow_mod};
 use of_wire::Bytes;

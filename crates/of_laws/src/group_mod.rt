@@ -2,14 +2,9 @@
 ghost use Rattle.std.specs.Prelude.{◌≡◌, ◌+◌, ◌++◌, true, length, IfOk, OnOk};
 ghost use Rattle.std.specs.List.{list_all};
 ghost use Rattle.of_groups.specs.Buckets.{are_fit};
-ghost use Rattle.of_messages.specs.CanonicalGroups.{canonical_buckets, has_numbers};
-ghost use Rattle.of_messages.specs.Written.{message_header};
-ghost use Rattle.of_messages.specs.declared.group_mod.GroupMod.TheVariants.{Delete};
+ghost use Rattle.of_messages.specs.{CanonicalGroups.canonical_buckets, CanonicalGroups.has_numbers, Written.message_header, declared.group_mod.GroupMod.TheVariants.Delete};
 ghost use Rattle.of_messages.specs.declared.message.Message.TheVariants.{GroupMod as IsGroupMod};
-ghost use Rattle.of_laws.specs.Cells.{canonical_cells, FitsCells};
-ghost use Rattle.of_laws.specs.Grammar.{group_cells};
-ghost use Rattle.of_laws.specs.Sound.{is_sound};
-ghost use Rattle.of_laws.specs.Written.{IsWritten};
+ghost use Rattle.of_laws.specs.{Cells.canonical_cells, Cells.FitsCells, Grammar.group_cells, Sound.is_sound, Written.IsWritten};
 
 use crate::header::begin;
 use of_formats::messages::GROUP_MOD;

@@ -1,21 +1,12 @@
 //! Laws of the grammar of messages, joined to what reads them.
 ghost use Rattle.std.specs.Prelude.{◌≡◌, ◌==◌, ◌++◌, ℕ, List, [], true, None, Ok, Err};
 ghost use Rattle.std.specs.List.{All, list_any};
-ghost use Rattle.of_wire.specs.declared.code.Code.{Code};
-ghost use Rattle.of_wire.specs.declared.codes.TheConstants.{OFPBRC_IS_SLAVE};
-ghost use Rattle.of_actions.specs.Actions.{AreActions};
-ghost use Rattle.of_actions.specs.InstructionLists.{are_for, are_kept};
-ghost use Rattle.of_actions.specs.Instructions.{EncodesInstructions};
-ghost use Rattle.of_actions.specs.Supported.{are_supported};
-ghost use Rattle.of_actions.specs.declared.action.Action.{Action};
+ghost use Rattle.of_wire.specs.{declared.code.Code.Code, declared.codes.TheConstants.OFPBRC_IS_SLAVE};
+ghost use Rattle.of_actions.specs.{Actions.AreActions, InstructionLists.are_for, InstructionLists.are_kept, Instructions.EncodesInstructions, Supported.are_supported, declared.action.Action.Action};
 ghost use Rattle.of_actions.specs.declared.instruction.Instruction.{Instruction};
-ghost use Rattle.of_messages.specs.Messages.{message_from, message_of, xid_of};
-ghost use Rattle.of_messages.specs.declared.message.Message.{Message};
-ghost use Rattle.of_messages.specs.declared.role.Role.TheVariants.{Slave};
-ghost use Rattle.of_laws.specs.ActionStructs.{action_type, action_types, AreStructs};
-ghost use Rattle.of_laws.specs.Grammar.{changes_switch, MaySend, Encodes};
-ghost use Rattle.of_laws.specs.InstructionStructs.{AreInAnyOrder};
-ghost use Rattle.of_laws.specs.Told.{EncodesSwitchMessage, Told};
+ghost use Rattle.of_messages.specs.{Messages.message_from, Messages.message_of, Messages.xid_of, declared.message.Message.Message, declared.role.Role.TheVariants.Slave};
+ghost use Rattle.of_laws.specs.{ActionStructs.action_type, ActionStructs.action_types, ActionStructs.AreStructs, Grammar.changes_switch, Grammar.MaySend, Grammar.Encodes};
+ghost use Rattle.of_laws.specs.{InstructionStructs.AreInAnyOrder, Told.EncodesSwitchMessage, Told.Told};
 
 use of_messages::Role;
 

@@ -1,13 +1,9 @@
 //! MULTIPART_REQUEST (OpenFlow 1.3.5, 7.3.5).
 ghost use Rattle.std.specs.Prelude.{◌≡◌, ◌<◌, ◌^◌, ◌+◌, ◌++◌, ◌∷◌, [], true, length, IfOk, OnOk};
-ghost use Rattle.of_oxm.specs.Canonical.{canonical};
-ghost use Rattle.of_oxm.specs.NormalForm.{IsMatch};
-ghost use Rattle.of_messages.specs.Written.{message_header};
-ghost use Rattle.of_messages.specs.declared.message.Message.TheVariants.{Multipart};
+ghost use Rattle.of_oxm.specs.{Canonical.canonical, NormalForm.IsMatch};
+ghost use Rattle.of_messages.specs.{Written.message_header, declared.message.Message.TheVariants.Multipart};
 ghost use Rattle.of_laws.specs.Cells.{canonical_cells, FitsCells, byte, u16_cell, u32_cell, u64_cell, even, pad};
-ghost use Rattle.of_laws.specs.Requests.{flows_cells};
-ghost use Rattle.of_laws.specs.Sound.{is_sound};
-ghost use Rattle.of_laws.specs.Written.{IsWritten};
+ghost use Rattle.of_laws.specs.{Requests.flows_cells, Sound.is_sound, Written.IsWritten};
 
 use crate::header::begin;
 use of_formats::messages::MULTIPART_REQUEST;

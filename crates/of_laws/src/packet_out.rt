@@ -1,10 +1,7 @@
 //! PACKET_OUT (OpenFlow 1.3.5, 7.3.7).
 ghost use Rattle.std.specs.Prelude.{◌≡◌, ◌<◌, ◌≤◌, ◌^◌, true, length, IfOk};
 ghost use Rattle.of_messages.specs.declared.message.Message.TheVariants.{PacketOut as IsPacketOut};
-ghost use Rattle.of_laws.specs.Grammar.{buffer_of};
-ghost use Rattle.of_laws.specs.Canonical.{packet_data_bytes as frame_in};
-ghost use Rattle.of_laws.specs.Sound.{is_sound, is_sound_packet};
-ghost use Rattle.of_laws.specs.Written.{IsWritten};
+ghost use Rattle.of_laws.specs.{Grammar.buffer_of, Canonical.packet_data_bytes as frame_in, Sound.is_sound, Sound.is_sound_packet, Written.IsWritten};
 
 use crate::header::begin;
 use of_actions::write_actions;

@@ -4,20 +4,15 @@ ghost use Rattle.std.specs.Prelude.{◌≡◌, ◌≤◌, ◌<◌, ◌*◌, ◌^
 ghost use Rattle.std.specs.List.{All};
 ghost use Rattle.of_groups.specs.declared.group.Group.{Group};
 ghost use Rattle.of_ports.specs.declared.port.Port.{Port};
-ghost use Rattle.of_table.specs.declared.selection.Selector.{Selector};
-ghost use Rattle.of_table.specs.Tables.{Tables};
-ghost use Rattle.of_statistics.specs.Descriptions.{description_bytes};
+ghost use Rattle.of_table.specs.{declared.selection.Selector.Selector, Tables.Tables};
 ghost use Rattle.of_statistics.specs.Flows.{aggregate_bytes, asked, flow_bytes, entries_with_tables, table_bytes};
-ghost use Rattle.of_statistics.specs.Groups.{asked_groups, group_bytes, group_description_bytes, group_features_bytes};
+ghost use Rattle.of_statistics.specs.{Descriptions.description_bytes, Groups.asked_groups, Groups.group_bytes, Groups.group_description_bytes, Groups.group_features_bytes};
 ghost use Rattle.of_statistics.specs.Ports.{asked_ports, described, port_description_bytes, port_stats_bytes};
-ghost use Rattle.of_laws.specs.Cells.{FitsCells};
-ghost use Rattle.of_laws.specs.Grammar.{Encodes};
-ghost use Rattle.of_laws.specs.Told.{port_cells, EncodesSwitchMessage, Told};
-ghost use Rattle.of_messages.specs.declared.message.Message.{Message};
-ghost use Rattle.of_laws.specs.AnyMessage.{AreAlike, EncodesAny};
 ghost use Rattle.of_laws.specs.Replied.{Reply, EncodeAll, EncodesReply, aggregate, described_groups, described_ports, description, flows, group_features, groups, ports, reply_cells, tables};
-ghost use Rattle.of_laws.specs.ReplyRows.{port_stats_cells, table_cells};
 ghost use Rattle.of_laws.specs.Shown.{aggregate_shown, flow_shown, group_described, group_shown, IsDescribable, IsShownFlow, IsShownGroup, port_shown, tables_shown};
+ghost use Rattle.of_laws.specs.{Cells.FitsCells, Grammar.Encodes, Told.port_cells, Told.EncodesSwitchMessage, Told.Told, AnyMessage.AreAlike, AnyMessage.EncodesAny};
+ghost use Rattle.of_laws.specs.ReplyRows.{port_stats_cells, table_cells};
+ghost use Rattle.of_messages.specs.declared.message.Message.{Message};
 
 /// No bytes encode two replies, or have two transaction ids, or say both that more follow and that none do.
 pub fn one_reply()

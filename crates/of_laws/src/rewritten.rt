@@ -1,10 +1,7 @@
 //! The fields of rewritten frames.
 ghost use Rattle.std.specs.Prelude.{◌≡◌, ◌∷◌, IsTrue, List, ℕ};
-ghost use Rattle.of_layers.specs.declared.field.Field.{Field};
-ghost use Rattle.of_layers.specs.Fields.{is_settable};
-ghost use Rattle.of_layers.specs.Reading.{is_tag_type, layers_of};
-ghost use Rattle.of_headers.specs.FieldMap.{field_map};
-ghost use Rattle.of_headers.specs.Tags.{inner_tags, tag_before};
+ghost use Rattle.of_layers.specs.{declared.field.Field.Field, Fields.is_settable, Reading.is_tag_type, Reading.layers_of};
+ghost use Rattle.of_headers.specs.{FieldMap.field_map, Tags.inner_tags, Tags.tag_before};
 ghost use Rattle.of_rewrite.specs.Frames.{IsFrame, frame_popped, frame_pushed, frame_set, frame_ttl, frame_ttl_decremented};
 ghost use Rattle.of_laws.specs.Rewritten.{fields_set, fields_tagged};
 

@@ -1,37 +1,17 @@
 //! Laws of the round trip of flow texts, by the file that `asm` writes.
 ghost use Rattle.std.specs.Prelude.{◌≡◌, ◌<◌, ◌++◌, ℕ, List, length, None, Option, Some, false, true};
 ghost use Rattle.std.specs.List.{AllByRecursion, flat_map};
-ghost use Rattle.of_wire.specs.Items.{outcome};
-ghost use Rattle.of_wire.specs.Refusals.{first_of};
-ghost use Rattle.of_oxm.specs.Canonical.{canonical};
-ghost use Rattle.of_oxm.specs.MatchReading.{match_of};
-ghost use Rattle.of_oxm.specs.NormalForm.{IsAscending};
-ghost use Rattle.of_oxm.specs.declared.match_field.MatchField.{MatchField};
-ghost use Rattle.of_actions.specs.declared.action.Action.{Action};
-ghost use Rattle.of_actions.specs.declared.instruction.Instruction.{Instruction};
-ghost use Rattle.of_actions.specs.Actions.{actions_said};
-ghost use Rattle.of_actions.specs.CanonicalActions.{canonical_actions};
-ghost use Rattle.of_actions.specs.CanonicalInstructions.{canonical_instructions};
-ghost use Rattle.of_actions.specs.InstructionLists.{run_place};
-ghost use Rattle.of_actions.specs.InstructionReading.{instructions_in_bytes};
-ghost use Rattle.of_actions.specs.Rising.{is_ascending};
-ghost use Rattle.of_messages.specs.CanonicalGroups.{group_add_bytes};
-ghost use Rattle.of_messages.specs.Messages.{message_of};
-ghost use Rattle.of_messages.specs.Written.{flow_mod_bytes};
-ghost use Rattle.of_text.specs.Groups.{TextGroup};
-ghost use Rattle.of_text.specs.Flows.{Flow};
+ghost use Rattle.of_wire.specs.{Items.outcome, Refusals.first_of};
+ghost use Rattle.of_oxm.specs.{Canonical.canonical, MatchReading.match_of, NormalForm.IsAscending, declared.match_field.MatchField.MatchField};
+ghost use Rattle.of_actions.specs.{declared.action.Action.Action, declared.instruction.Instruction.Instruction, Actions.actions_said, CanonicalActions.canonical_actions};
+ghost use Rattle.of_actions.specs.{CanonicalInstructions.canonical_instructions, InstructionLists.run_place, InstructionReading.instructions_in_bytes, Rising.is_ascending};
+ghost use Rattle.of_messages.specs.{CanonicalGroups.group_add_bytes, Messages.message_of, Written.flow_mod_bytes};
 ghost use Rattle.of_text.specs.Refusals.{flow_refusals, goto_refusals, instruction_refusals, list_refusals, match_refusals};
-ghost use Rattle.of_text.specs.Rows.{ActionFits, FieldFits};
-ghost use Rattle.of_build.specs.Building.{BuildsOf, build_text};
-ghost use Rattle.of_build.specs.Listing.{add_of, new_of};
-ghost use Rattle.of_text.specs.Configs.{Configuration, EncodeConfig, config_text};
-ghost use Rattle.of_text.specs.Lines.{lines_of as text_lines};
-ghost use Rattle.of_replay.specs.Lexing.{lines_of_file};
-ghost use Rattle.of_replay.specs.FileRuns.{state_after_rows, switch_text};
-ghost use Rattle.of_replay.specs.Play.{lines_read};
-ghost use Rattle.of_replay.specs.Rows.{rows_of_lines};
-ghost use Rattle.of_laws.specs.RoundTrip.{ComesBack};
+ghost use Rattle.of_text.specs.{Groups.TextGroup, Flows.Flow, Rows.ActionFits, Rows.FieldFits, Configs.Configuration, Configs.EncodeConfig, Configs.config_text, Lines.lines_of as text_lines};
+ghost use Rattle.of_build.specs.{Building.BuildsOf, Building.build_text, Listing.add_of, Listing.new_of};
+ghost use Rattle.of_replay.specs.{Lexing.lines_of_file, FileRuns.state_after_rows, FileRuns.switch_text, Play.lines_read, Rows.rows_of_lines};
 ghost use Rattle.of_laws.specs.Refused.{InstructionFits, IsSaid, IsSaidGroup, group_outcome, match_outcome, message_outcome, said_refusals};
+ghost use Rattle.of_laws.specs.RoundTrip.{ComesBack};
 
 /// The file that is built of a flow text, run on a new switch with any datapath_id, ends with the configuration that the text encodes.
 ///

@@ -2,10 +2,7 @@
 ghost use Rattle.std.specs.Prelude.{◌≡◌, ◌++◌, true, IfOk, OnOk};
 ghost use Rattle.byteorder.specs.Endian.{big_bytes};
 ghost use Rattle.of_messages.specs.declared.message.Message.TheVariants.{SetConfig, PortMod as IsPortMod, TableMod as IsTableMod, RoleRequest as IsRoleRequest, SetAsync};
-ghost use Rattle.of_laws.specs.Cells.{canonical_cells, FitsCells};
-ghost use Rattle.of_laws.specs.Grammar.{message_cells, role_cells};
-ghost use Rattle.of_laws.specs.Sound.{is_sound};
-ghost use Rattle.of_laws.specs.Written.{IsWritten, masks_cells};
+ghost use Rattle.of_laws.specs.{Cells.canonical_cells, Cells.FitsCells, Grammar.message_cells, Grammar.role_cells, Sound.is_sound, Written.IsWritten, Written.masks_cells};
 
 use crate::header::begin;
 use of_formats::messages::{PORT_MOD, ROLE_REQUEST, SET_ASYNC, SET_CONFIG, TABLE_MOD};

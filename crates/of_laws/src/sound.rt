@@ -1,6 +1,5 @@
 //! Which messages some bytes encode.
-ghost use Rattle.std.specs.Prelude.{◌≡◌};
-ghost use Rattle.std.specs.List.{list_all};
+ghost use Rattle.std.specs.{Prelude.◌≡◌, List.list_all};
 ghost use Rattle.of_messages.specs.Configs.{names_table as is_named};
 ghost use Rattle.of_laws.specs.Sound.{counts_nothing as is_fresh, is_one as is_asked, is_sound as has_bytes, is_sound_flow_mod, is_sound_group, is_sound_group_mod, is_sound_packet, is_sound_request};
 

@@ -2,10 +2,7 @@
 ghost use Rattle.std.specs.Prelude.{◌≡◌, ℕ, List, true, Ok, IfOk, IfErr};
 ghost use Rattle.of_layers.specs.WellFormed.{AreBytes};
 ghost use Rattle.of_messages.specs.Messages.{message_of, xid_of};
-ghost use Rattle.of_laws.specs.Grammar.{Encodes};
-ghost use Rattle.of_laws.specs.Canonical.{canonical_message as canonical_bytes};
-ghost use Rattle.of_laws.specs.Sound.{is_sound as has_bytes};
-ghost use Rattle.of_laws.specs.Written.{IsWritten};
+ghost use Rattle.of_laws.specs.{Grammar.Encodes, Canonical.canonical_message as canonical_bytes, Sound.is_sound as has_bytes, Written.IsWritten};
 
 use crate::flow_mod::write_sound_flow_mod;
 use crate::group_mod::write_group_request;

@@ -4,28 +4,17 @@
 ghost use Rattle.std.specs.Prelude.{◌≡◌, ◌≤◌, ◌<◌, ◌^◌, ℕ, true, List, [], length, Option, Ok};
 ghost use Rattle.std.specs.List.{list_all};
 ghost use Rattle.of_wire.specs.declared.code.Code.{Code};
-ghost use Rattle.of_oxm.specs.declared.match_field.MatchField.{MatchField};
-ghost use Rattle.of_oxm.specs.NormalForm.{IsMatch};
+ghost use Rattle.of_oxm.specs.{declared.match_field.MatchField.MatchField, NormalForm.IsMatch};
 ghost use Rattle.of_actions.specs.InstructionLists.{are_for, are_kept};
 ghost use Rattle.of_groups.specs.Buckets.{are_fit};
-ghost use Rattle.of_messages.specs.CanonicalGroups.{as_written, group_add_bytes, has_numbers};
-ghost use Rattle.of_messages.specs.Messages.{message_of};
-ghost use Rattle.of_messages.specs.Roles.{generation_number};
 ghost use Rattle.of_messages.specs.Written.{async_reply_bytes, barrier_reply_bytes, config_reply_bytes, echo_reply_bytes, error_bytes, features_reply_bytes, flow_mod_bytes, flow_removed_bytes, hello_bytes, packet_in_bytes, port_status_bytes, role_reply_bytes};
-ghost use Rattle.of_messages.specs.declared.async_masks.AsyncMasks.{AsyncMasks};
-ghost use Rattle.of_messages.specs.declared.config.SwitchConfig.{SwitchConfig};
-ghost use Rattle.of_messages.specs.declared.group_mod.GroupMod.TheVariants.{Add};
-ghost use Rattle.of_messages.specs.declared.group_mod.NewGroup.{NewGroup};
-ghost use Rattle.of_messages.specs.declared.message.FlowMod.{FlowMod};
-ghost use Rattle.of_messages.specs.declared.message.FlowRemoved.{FlowRemoved};
-ghost use Rattle.of_messages.specs.declared.message.Message.TheVariants.{FlowMod as IsFlowMod, GroupMod as IsGroupMod};
-ghost use Rattle.of_messages.specs.declared.message.PacketIn.{PacketIn};
-ghost use Rattle.of_messages.specs.declared.port_mod.PortDescription.{PortDescription};
-ghost use Rattle.of_messages.specs.declared.port_mod.PortStatusReason.{PortStatusReason};
-ghost use Rattle.of_messages.specs.declared.role.Role.{Role};
-ghost use Rattle.of_laws.specs.Cells.{FitsCells};
-ghost use Rattle.of_laws.specs.Grammar.{deletes, flow_mod_cells, IsValidFlowMod, Encodes};
+ghost use Rattle.of_messages.specs.{CanonicalGroups.as_written, CanonicalGroups.group_add_bytes, CanonicalGroups.has_numbers, Messages.message_of, Roles.generation_number};
+ghost use Rattle.of_messages.specs.{declared.async_masks.AsyncMasks.AsyncMasks, declared.config.SwitchConfig.SwitchConfig, declared.group_mod.GroupMod.TheVariants.Add};
+ghost use Rattle.of_messages.specs.{declared.group_mod.NewGroup.NewGroup, declared.message.FlowMod.FlowMod, declared.message.FlowRemoved.FlowRemoved};
+ghost use Rattle.of_messages.specs.{declared.message.Message.TheVariants.FlowMod as IsFlowMod, declared.message.Message.TheVariants.GroupMod as IsGroupMod, declared.message.PacketIn.PacketIn};
+ghost use Rattle.of_messages.specs.{declared.port_mod.PortDescription.PortDescription, declared.port_mod.PortStatusReason.PortStatusReason, declared.role.Role.Role};
 ghost use Rattle.of_laws.specs.Told.{EncodesSwitchMessage, told_cells, hello, error, echo_reply, features_reply, config_reply, packet_in, flow_removed, port_status, barrier_reply, role_reply, async_reply};
+ghost use Rattle.of_laws.specs.{Cells.FitsCells, Grammar.deletes, Grammar.flow_mod_cells, Grammar.IsValidFlowMod, Grammar.Encodes};
 
 /// The FLOW_MOD that `of_messages::write_flow_mod` writes encodes what was written, and is read as that; of a FLOW_MOD that a
 /// controller may send, whose DELETE commands have no instructions (OpenFlow 1.3.5, 7.3.4.1).

@@ -1,16 +1,12 @@
 -- ARP: encoded by its numbers, by no others, and well formed.
 use Rattle.std.proofs.Common.{◌≡◌, ℕ, ◌≤◌, true, List, ◌++◌, length, get_or, drop, sym, ap, ◌∙◌, arith, append_assoc}
-use Rattle.std.specs.Prelude.{◌==◌, ◌&&◌, nat_le}
-use Rattle.std.proofs.lemmas.Bool.{leb-true, le-leb, eqb-true, eq-eqb}
+use Rattle.std.{specs.Prelude.◌==◌, specs.Prelude.◌&&◌, specs.Prelude.nat_le, proofs.lemmas.Bool.leb-true, proofs.lemmas.Bool.le-leb, proofs.lemmas.Bool.eqb-true, proofs.lemmas.Bool.eq-eqb}
 use Rattle.std.proofs.lemmas.List.{length-append}
-use Rattle.of_layers.specs.Bits.{bits, bits_of}
 use Rattle.of_layers.specs.Layers.{Arp, arp, cells_in, byte_cells, body_cells, encoded}
 use Rattle.of_layers.specs.Reading.{word, double, six, is_arp, arp_numbers, arp_of}
-use Rattle.of_layers.specs.WellFormed.{AreBytes, FitsItems, IsArp}
-use Rattle.of_layers.proofs.BitLemmas.{length-bits_of}
 use Rattle.of_layers.proofs.EncodingLemmas.{AreBytes-drop, then_bits, byte_from, word_from, double_from, six_from, word_small, double_small, six_small, encoded-append, encoded_bytes}
-use Rattle.of_layers.proofs.FrontLemmas.{front_same, bytes_same, length_fits}
-use Rattle.of_layers.proofs.TestLemmas.{and_true, all_true}
+use Rattle.of_layers.{specs.Bits.bits, specs.Bits.bits_of, specs.WellFormed.AreBytes, specs.WellFormed.FitsItems, specs.WellFormed.IsArp, proofs.BitLemmas.length-bits_of}
+use Rattle.of_layers.proofs.{FrontLemmas.front_same, FrontLemmas.bytes_same, FrontLemmas.length_fits, TestLemmas.and_true, TestLemmas.all_true}
 
 record HasArp (p : List ℕ) : Type 0 where
   whole : 28 ≤ length p

@@ -1,8 +1,8 @@
 -- Numbers as bits: cut, joined and read back.
 use Rattle.std.proofs.Common.{◌≡◌, ℕ, zero, suc, ◌+◌, ◌*◌, ◌/◌, ◌%◌, ◌^◌, ◌<◌, List, [], ◌∷◌, ◌++◌, length, take, drop, refl, sym, ap, ◌∙◌, arith, append_assoc}
 use Rattle.std.proofs.lemmas.Nat.{shr-shr, mod-pow-add, pow_pos, shr_high, shr_split, mod_below}
-use Rattle.std.proofs.lemmas.List.{length-append, take_at, drop_at}
 use Rattle.std.proofs.Math.Nat.{pow-suc, add-mul-div_right, mod-eq_of_lt, add_comm, zero-add}
+use Rattle.std.proofs.lemmas.List.{length-append, take_at, drop_at}
 use Rattle.of_layers.specs.Bits.{bits, bits_of}
 
 -- the number that bits are

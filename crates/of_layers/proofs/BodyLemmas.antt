@@ -1,16 +1,10 @@
 -- What follows the type: encoded by its body, by no other, and well formed.
 use Rattle.std.proofs.Common.{◌≡◌, ℕ, Bool, true, false, cond, List, refl, sym, ap, ◌∙◌}
-use Rattle.std.specs.Prelude.{◌==◌, ◌&&◌, ◌||◌}
-use Rattle.std.proofs.lemmas.Bool.{eqb-true, eq-eqb}
-use Rattle.of_layers.specs.Bits.{bits_of}
+use Rattle.std.{specs.Prelude.◌==◌, specs.Prelude.◌&&◌, specs.Prelude.◌||◌, proofs.lemmas.Bool.eqb-true, proofs.lemmas.Bool.eq-eqb}
 use Rattle.of_layers.specs.Layers.{Body, Plain, Arp, Ipv4, Ipv6, body_cells, encoded}
 use Rattle.of_layers.specs.Reading.{is_arp, is_ipv4, is_ipv6, arp_of, ipv4_of, ipv6_of, body_of}
-use Rattle.of_layers.specs.WellFormed.{AreBytes, has_packet, IsBody}
-use Rattle.of_layers.proofs.EncodingLemmas.{encoded_bytes}
-use Rattle.of_layers.proofs.FrontLemmas.{bytes_same}
-use Rattle.of_layers.proofs.TestLemmas.{and_true}
-use Rattle.of_layers.proofs.ArpLemmas.{arp_encoded, arp_fits, arp_is}
-use Rattle.of_layers.proofs.Ipv4Lemmas.{ipv4_encoded, ipv4_fits, ipv4_is}
+use Rattle.of_layers.{specs.Bits.bits_of, specs.WellFormed.AreBytes, specs.WellFormed.has_packet, specs.WellFormed.IsBody, proofs.EncodingLemmas.encoded_bytes, proofs.FrontLemmas.bytes_same}
+use Rattle.of_layers.proofs.{TestLemmas.and_true, ArpLemmas.arp_encoded, ArpLemmas.arp_fits, ArpLemmas.arp_is, Ipv4Lemmas.ipv4_encoded, Ipv4Lemmas.ipv4_fits, Ipv4Lemmas.ipv4_is}
 use Rattle.of_layers.proofs.Ipv6Lemmas.{ipv6_encoded, ipv6_fits, ipv6_is}
 
 -- the first of three that is there, or none

@@ -1,17 +1,12 @@
 -- What an IP packet carries: encoded by its numbers and the bytes after them, by no others, and well formed.
 use Rattle.std.proofs.Common.{◌≡◌, ℕ, ◌*◌, ◌≤◌, Bool, true, false, cond, List, ◌++◌, length, get_or, drop, refl, sym, ap, ◌∙◌, arith, append_assoc}
-use Rattle.std.specs.Prelude.{nat_le}
-use Rattle.std.proofs.lemmas.Bool.{leb-true}
-use Rattle.std.proofs.lemmas.List.{length-append, length-drop}
-use Rattle.of_layers.specs.declared.transport.Transport.{Transport}
+use Rattle.std.{specs.Prelude.nat_le, proofs.lemmas.Bool.leb-true, proofs.lemmas.List.length-append, proofs.lemmas.List.length-drop}
 use Rattle.of_layers.specs.declared.transport.Transport.TheVariants.{Nothing, Tcp, Udp, Icmpv4, Icmpv6}
-use Rattle.of_layers.specs.Bits.{bits, bits_of}
 use Rattle.of_layers.specs.Layers.{Carried, items_of, size_of, cells_in, byte_cells, carried_cells, encoded}
 use Rattle.of_layers.specs.Reading.{word, double, whole_in, numbers_of, carried_as, carried_of}
-use Rattle.of_layers.specs.WellFormed.{AreBytes, FitsItems, IsCarried, carried_size}
-use Rattle.of_layers.proofs.BitLemmas.{length-bits_of}
 use Rattle.of_layers.proofs.EncodingLemmas.{AreBytes-drop, then_bits, byte_from, word_from, double_from, word_small, double_small, encoded-append, encoded_bytes}
-use Rattle.of_layers.proofs.FrontLemmas.{front_same, bytes_same, total, length_fits}
+use Rattle.of_layers.specs.{declared.transport.Transport.Transport, Bits.bits, Bits.bits_of, WellFormed.AreBytes, WellFormed.FitsItems, WellFormed.IsCarried, WellFormed.carried_size}
+use Rattle.of_layers.proofs.{BitLemmas.length-bits_of, FrontLemmas.front_same, FrontLemmas.bytes_same, FrontLemmas.total, FrontLemmas.length_fits}
 
 -- ---- the headers
 

@@ -1,17 +1,14 @@
 -- The extension headers of IPv6: encoded one by one, by no others, and well formed.
 use Rattle.std.proofs.Common.{◌≡◌, ℕ, zero, suc, ◌+◌, ◌*◌, ◌/◌, ◌%◌, ◌≤◌, Bool, true, false, cond, List, [], ◌∷◌, ◌++◌, length, get_or, take, drop, refl, sym, ap, subst, ◌∙◌, arith, append_assoc}
 use Rattle.std.specs.Prelude.{◌==◌, ◌&&◌, ◌||◌, not, nat_le}
-use Rattle.std.proofs.lemmas.Bool.{leb-true, le-leb, lt-leb, eqb-true}
 use Rattle.std.proofs.lemmas.List.{length-append, length-drop, length-take, drop-drop, drop-take}
-use Rattle.of_layers.specs.declared.transport.Transport.{Transport}
-use Rattle.of_layers.specs.declared.transport.Transport.TheVariants.{Nothing}
-use Rattle.of_layers.specs.Bits.{bits, bits_of}
+use Rattle.std.proofs.lemmas.Bool.{leb-true, le-leb, lt-leb, eqb-true}
 use Rattle.of_layers.specs.Layers.{Cell, Carried, Extension, Options, Fragment, plain, options, fragment, size_of, cells_in, byte_cells, next_before, all_bytes, extension_cells, carried_cells, encoded}
 use Rattle.of_layers.specs.Reading.{word, over_ipv6, carried_of, has_options, is_fragment, extension_size, has_extension, is_later, options_numbers, fragment_numbers, extension_of, Chain, behind_extension, ends_as, chain_of}
 use Rattle.of_layers.specs.WellFormed.{AreBytes, FitsItems, IsCarried, AreExtensions, carried_size}
-use Rattle.of_layers.proofs.BitLemmas.{bits_cut, length-bits_of, bits_of-append}
 use Rattle.of_layers.proofs.EncodingLemmas.{AreBytes-drop, AreBytes-take, then_bits, byte_from, word_from, double_from, word_small, double_small, encoded-append, encoded_bytes}
-use Rattle.of_layers.proofs.FrontLemmas.{front_same, take_front, drop_parts, length_fits}
+use Rattle.of_layers.specs.{declared.transport.Transport.Transport, declared.transport.Transport.TheVariants.Nothing, Bits.bits, Bits.bits_of}
+use Rattle.of_layers.proofs.{BitLemmas.bits_cut, BitLemmas.length-bits_of, BitLemmas.bits_of-append, FrontLemmas.front_same, FrontLemmas.take_front, FrontLemmas.drop_parts, FrontLemmas.length_fits}
 use Rattle.of_layers.proofs.CarriedLemmas.{carried_encoded, carries, length_carried, carried_is}
 use Rattle.of_layers.proofs.TestLemmas.{and_true, or_then, same_either}
 

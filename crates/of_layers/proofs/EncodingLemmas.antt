@@ -1,12 +1,10 @@
 -- The bits of a frame, part by part.
 use Rattle.std.proofs.Common.{◌≡◌, ℕ, zero, suc, ◌+◌, ◌*◌, ◌/◌, ◌%◌, ◌^◌, ◌<◌, ◌≤◌, List, [], ◌∷◌, ◌++◌, length, get_or, take, drop, refl, sym, ap, ◌∙◌, arith, append_assoc, inl, inr}
-use Rattle.std.proofs.lemmas.Bool.{cases_lt}
 use Rattle.std.proofs.lemmas.List.{get_or-drop, get_or-take, get_or_past, drop-drop, length-drop, length-take, drop_more}
-use Rattle.of_layers.specs.Bits.{bits, bits_of}
+use Rattle.std.proofs.lemmas.Bool.{cases_lt}
 use Rattle.of_layers.specs.Layers.{Cell, cells_in, byte_cells, inner_cells, tag_cells, addresses, outer_tag, inner_tag, encoded}
 use Rattle.of_layers.specs.Reading.{word, double, six, eight, sixteen, tags_of, tag_numbers}
-use Rattle.of_layers.specs.WellFormed.{AreBytes}
-use Rattle.of_layers.proofs.BitLemmas.{bits_parts, bits_cut, word_bits}
+use Rattle.of_layers.{specs.Bits.bits, specs.Bits.bits_of, specs.WellFormed.AreBytes, proofs.BitLemmas.bits_parts, proofs.BitLemmas.bits_cut, proofs.BitLemmas.word_bits}
 
 pub AreBytes-drop : (n : ℕ) (s : List ℕ) → AreBytes s → AreBytes (drop n s)
 AreBytes-drop n s h i = rw get_or-drop (h (n + i))

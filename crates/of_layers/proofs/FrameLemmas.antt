@@ -1,15 +1,13 @@
 -- A frame is the encoding of the layers that are read from it, these are well formed, and no others encode it.
 use Rattle.std.proofs.Common.{◌≡◌, ℕ, zero, suc, ◌+◌, ◌*◌, ◌^◌, ◌<◌, ◌≤◌, true, false, List, [], ◌∷◌, ◌++◌, length, get_or, drop, refl, sym, ap, ◌∙◌, arith, append_assoc}
 use Rattle.std.proofs.lemmas.List.{drop-drop, length-drop, length-append}
-use Rattle.of_layers.specs.Bits.{bits, bits_of}
 use Rattle.of_layers.specs.Layers.{Layers, cells_in, inner_cells, tag_cells, body_cells, addresses, outer_tag, inner_tag, ether_type, Body, encoded, EncodesLayers}
 use Rattle.of_layers.specs.Reading.{word, six, tag_count, tags_of, tag_numbers, is_tag_type, body_of, layers_of}
-use Rattle.of_layers.specs.WellFormed.{AreBytes, AreTags, IsLayers}
-use Rattle.of_layers.proofs.BitLemmas.{bits_front, length-bits, length-bits_of}
 use Rattle.of_layers.proofs.TagLemmas.{tag_step, tag_stop, tag_short, tag_room, count_tag, end_count, few_left}
 use Rattle.of_layers.proofs.EncodingLemmas.{AreBytes-drop, then_bits, word_from, six_from, encoded-append, tag_encoded, inner_encoded, encoded_tags, ends_encoded}
 use Rattle.of_layers.proofs.FrontLemmas.{front_same, length_fits, word_behind, tag_fits, ends_fit}
-use Rattle.of_layers.proofs.BodyLemmas.{body_encoded, body_fits, body_is}
+use Rattle.of_layers.specs.{Bits.bits, Bits.bits_of, WellFormed.AreBytes, WellFormed.AreTags, WellFormed.IsLayers}
+use Rattle.of_layers.proofs.{BitLemmas.bits_front, BitLemmas.length-bits, BitLemmas.length-bits_of, BodyLemmas.body_encoded, BodyLemmas.body_fits, BodyLemmas.body_is}
 
 -- ---- they encode it
 

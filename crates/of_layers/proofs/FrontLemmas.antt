@@ -1,11 +1,9 @@
 -- Numbers and bytes that the same bits begin with are the same.
 use Rattle.std.proofs.Common.{◌≡◌, ℕ, suc, ◌+◌, ◌*◌, ◌≤◌, List, [], ◌∷◌, ◌++◌, length, get_or, take, drop, refl, sym, ap, ◌∙◌, arith, append_assoc}
 use Rattle.std.proofs.lemmas.List.{get_or-drop, length-append, append-nil, take_all, length-take, length-take-le, take-append-drop, drop-append-le}
-use Rattle.of_layers.specs.Bits.{bits, bits_of}
 use Rattle.of_layers.specs.Layers.{Item, cells_in, addresses, inner_tag, encoded}
-use Rattle.of_layers.specs.Reading.{word, six, tag_numbers}
-use Rattle.of_layers.specs.WellFormed.{AreBytes, FitsItems}
 use Rattle.of_layers.proofs.BitLemmas.{bits_front, append_same, length-bits, length-bits_of, bits_of-append}
+use Rattle.of_layers.specs.{Bits.bits, Bits.bits_of, Reading.word, Reading.six, Reading.tag_numbers, WellFormed.AreBytes, WellFormed.FitsItems}
 use Rattle.of_layers.proofs.EncodingLemmas.{AreBytes-drop}
 
 pub front_same : (is : List Item) (ns ms : List ℕ) (x y : List ℕ) → FitsItems is ns → FitsItems is ms → encoded (cells_in is ns) ++ x ≡ encoded (cells_in is ms) ++ y → (ns ≡ ms) × (x ≡ y)

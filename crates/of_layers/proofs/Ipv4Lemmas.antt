@@ -1,17 +1,14 @@
 -- IPv4: encoded by its numbers, options and what it carries, by no others, and well formed.
 use Rattle.std.proofs.Common.{◌≡◌, ℕ, ◌+◌, ◌*◌, ◌/◌, ◌%◌, ◌≤◌, min, true, List, ◌++◌, length, get_or, take, drop, refl, sym, ap, ◌∙◌, arith, append_assoc}
-use Rattle.std.specs.Prelude.{◌==◌, ◌&&◌, nat_le}
-use Rattle.std.proofs.lemmas.Bool.{leb-true, le-leb, eqb-true, eq-eqb}
 use Rattle.std.proofs.lemmas.List.{length-append, length-drop, length-take, drop-drop, drop-take, take_min, drop_min}
-use Rattle.of_layers.specs.Bits.{bits, bits_of}
+use Rattle.std.{specs.Prelude.◌==◌, specs.Prelude.◌&&◌, specs.Prelude.nat_le, proofs.lemmas.Bool.leb-true, proofs.lemmas.Bool.le-leb, proofs.lemmas.Bool.eqb-true, proofs.lemmas.Bool.eq-eqb}
 use Rattle.of_layers.specs.Layers.{Cell, Carried, Ipv4, ipv4, cells_in, byte_cells, carried_cells, body_cells, encoded}
 use Rattle.of_layers.specs.Reading.{word, double, carried_of, header_size, is_ipv4, ipv4_numbers, over_ipv4, kind_behind, ipv4_inside, ipv4_kind, ipv4_of}
-use Rattle.of_layers.specs.WellFormed.{AreBytes, FitsItems, IsIpv4, carried_size}
-use Rattle.of_layers.proofs.BitLemmas.{length-bits_of, bits_of-append}
 use Rattle.of_layers.proofs.EncodingLemmas.{AreBytes-drop, AreBytes-take, then_bits, byte_from, word_from, double_from, cut_byte, cut_word, word_small, double_small, encoded-append, encoded_bytes}
 use Rattle.of_layers.proofs.FrontLemmas.{front_same, take_front, cut_bits, drop_parts, length_fits}
 use Rattle.of_layers.proofs.CarriedLemmas.{carried_encoded, carried_bytes, carries, length_carried, carried_is}
-use Rattle.of_layers.proofs.TestLemmas.{min_of, and_true, all_true}
+use Rattle.of_layers.specs.{Bits.bits, Bits.bits_of, WellFormed.AreBytes, WellFormed.FitsItems, WellFormed.IsIpv4, WellFormed.carried_size}
+use Rattle.of_layers.proofs.{BitLemmas.length-bits_of, BitLemmas.bits_of-append, TestLemmas.min_of, TestLemmas.and_true, TestLemmas.all_true}
 
 record HasIpv4 (p : List ℕ) : Type 0 where
   whole : 20 ≤ length p

@@ -1,16 +1,13 @@
 -- IPv6: encoded by its numbers, extension headers and what it carries, by no others, and well formed.
 use Rattle.std.proofs.Common.{◌≡◌, ℕ, ◌+◌, ◌*◌, ◌/◌, ◌%◌, ◌<◌, ◌≤◌, min, true, List, [], ◌∷◌, ◌++◌, length, get_or, take, drop, sym, ap, ◌∙◌, arith, append_assoc}
-use Rattle.std.specs.Prelude.{◌==◌, ◌&&◌, nat_le}
-use Rattle.std.proofs.lemmas.Bool.{leb-true, le-leb, eqb-true, eq-eqb}
 use Rattle.std.proofs.lemmas.List.{length-append, length-drop, length-take, drop-drop, drop-take, take_min, drop_min}
-use Rattle.of_layers.specs.Bits.{bits, bits_of}
+use Rattle.std.{specs.Prelude.◌==◌, specs.Prelude.◌&&◌, specs.Prelude.nat_le, proofs.lemmas.Bool.leb-true, proofs.lemmas.Bool.le-leb, proofs.lemmas.Bool.eqb-true, proofs.lemmas.Bool.eq-eqb}
 use Rattle.of_layers.specs.Layers.{Cell, Carried, Extension, Ipv6, plain, ipv6, cells_in, byte_cells, next_before, all_bytes, extension_cells, carried_cells, body_cells, encoded}
 use Rattle.of_layers.specs.Reading.{word, double, sixteen, Chain, chain_of, is_ipv6, ipv6_numbers, ipv6_inside, ipv6_chain, ipv6_of}
-use Rattle.of_layers.specs.WellFormed.{AreBytes, FitsItems, IsIpv6, carried_size}
-use Rattle.of_layers.proofs.BitLemmas.{bits_cut, length-bits_of, bits_of-append}
 use Rattle.of_layers.proofs.EncodingLemmas.{AreBytes-drop, AreBytes-take, then_bits, byte_from, word_from, double_from, sixteen_from, word_small, sixteen_small, encoded-append, encoded_bytes}
-use Rattle.of_layers.proofs.FrontLemmas.{front_same, cut_bits, drop_parts, length_fits}
 use Rattle.of_layers.proofs.ChainLemmas.{chain_cells, chain_encoded, chain_fits, chain_bytes, length_chain, chain_is}
+use Rattle.of_layers.specs.{Bits.bits, Bits.bits_of, WellFormed.AreBytes, WellFormed.FitsItems, WellFormed.IsIpv6, WellFormed.carried_size}
+use Rattle.of_layers.proofs.{BitLemmas.bits_cut, BitLemmas.length-bits_of, BitLemmas.bits_of-append, FrontLemmas.front_same, FrontLemmas.cut_bits, FrontLemmas.drop_parts, FrontLemmas.length_fits}
 use Rattle.of_layers.proofs.TestLemmas.{min_of, and_true}
 
 record HasIpv6 (p : List ℕ) : Type 0 where

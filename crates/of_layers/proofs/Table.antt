@@ -1,11 +1,9 @@
 -- What holds of each row of the table of fields.
 use Rattle.std.proofs.Common.{◌≡◌, ℕ, ◌-◌, ◌^◌, ◌<◌, ◌≤◌, Bool, true, false, cond, eqb, ltb, List, [], ◌∷◌, Some, refl, ap, arith}
-use Rattle.std.specs.Prelude.{find}
-use Rattle.std.proofs.lemmas.Bool.{eqb-true, ltb-true}
-use Rattle.of_layers.specs.declared.field.Field.{Field}
-use Rattle.of_layers.specs.declared.field.Field.TheVariants.{InPort}
-use Rattle.of_layers.specs.declared.field.TheConstants.Field as constants
+use Rattle.std.{specs.Prelude.find, proofs.lemmas.Bool.eqb-true, proofs.lemmas.Bool.ltb-true}
 use Rattle.of_layers.specs.Fields.{row_of, number_of, bit_count, bytes_of, ones_of, field_at}
+use Rattle.of_layers.specs.{declared.field.Field.Field, declared.field.Field.TheVariants.InPort}
+use Rattle.of_layers.specs.declared.field.TheConstants.Field as constants
 
 -- ---- numbers
 

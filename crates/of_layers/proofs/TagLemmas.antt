@@ -1,7 +1,6 @@
 -- Counting tags, one at a time.
 use Rattle.std.proofs.Common.{◌≡◌, ℕ, zero, suc, ◌+◌, ◌*◌, ◌<◌, ◌≤◌, true, false, cond, List, [], ◌∷◌, length, drop, refl, sym, ap, ◌∙◌, arith, add-zero, inl, inr}
-use Rattle.std.proofs.lemmas.Bool.{cases_lt}
-use Rattle.std.proofs.lemmas.List.{get_or-drop, drop-drop, length-drop}
+use Rattle.std.proofs.{lemmas.Bool.cases_lt, lemmas.List.get_or-drop, lemmas.List.drop-drop, lemmas.List.length-drop}
 use Rattle.of_layers.specs.Reading.{word, tag_count, tags_of, is_tag_type}
 
 pub tag_step : (s : List ℕ) → 6 ≤ length s → is_tag_type (word s 0) ≡ true → tag_count s ≡ suc (tag_count (drop 4 s))

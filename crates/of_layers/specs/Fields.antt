@@ -1,11 +1,9 @@
 -- The match fields (OpenFlow 1.3.5, 7.2.3.7): their numbers, their bits, the bytes of a value,
 -- whether they take a mask (7.2.3.5), whether a set-field action may set them (5.12), and their prerequisites (7.2.3.6).
 use Rattle.std.specs.Prelude.{ℕ, ◌^◌, ◌-◌, Bool, true, false, ◌==◌, List, codes, Option, find}
-use Rattle.of_layers.specs.declared.field.Field.{Field}
 use Rattle.of_layers.specs.declared.field.Field.TheVariants.{InPort, Metadata, EthDst, EthSrc, EthType, VlanVid, VlanPcp, IpDscp, IpEcn, IpProto, Ipv4Src, Ipv4Dst, TcpSrc, TcpDst, UdpSrc, UdpDst, Icmpv4Type, Icmpv4Code, ArpOp, ArpSpa, ArpTpa, ArpSha, ArpTha, Ipv6Src, Ipv6Dst, Ipv6Flabel, Icmpv6Type, Icmpv6Code}
-use Rattle.of_layers.specs.declared.field.Prerequisite.{Prerequisite}
 use Rattle.of_layers.specs.declared.field.Prerequisite.TheVariants.{Nothing, Tag, Ip, Ipv4, Ipv6, Arp, Tcp, Udp, Icmpv4, Icmpv6}
-use Rattle.of_layers.specs.declared.field.FieldRow.{FieldRow}
+use Rattle.of_layers.specs.{declared.field.Field.Field, declared.field.Prerequisite.Prerequisite, declared.field.FieldRow.FieldRow}
 use Rattle.of_layers.specs.declared.field.TheConstants.Field as constants
 
 -- words for the two columns of yes and no

@@ -1,11 +1,8 @@
 -- The layers of a frame, and how they are encoded: addresses and type (IEEE 802.3, 3.1.1), VLAN tags (IEEE 802.1Q, 9.3), ARP (RFC 826), IPv4 (RFC 791, 3.1), IPv6 with its extension headers (RFC 8200, 3 and 4), TCP (RFC 9293, 3.1), UDP (RFC 768), ICMP (RFC 792), ICMPv6 (RFC 4443, 2.1).
 use Rattle.std.specs.Prelude.{◌≡◌, ℕ, ◌+◌, List, [], ◌∷◌, ◌++◌, length, Option, Some, None}
-use Rattle.of_layers.specs.declared.field.Field.{Field}
 use Rattle.of_layers.specs.declared.field.Field.TheVariants.{EthDst, EthSrc, EthType, VlanVid, VlanPcp, IpDscp, IpEcn, IpProto, Ipv4Src, Ipv4Dst, TcpSrc, TcpDst, UdpSrc, UdpDst, Icmpv4Type, Icmpv4Code, ArpOp, ArpSpa, ArpTpa, ArpSha, ArpTha, Ipv6Src, Ipv6Dst, Ipv6Flabel, Icmpv6Type, Icmpv6Code}
-use Rattle.of_layers.specs.declared.transport.Transport.{Transport}
 use Rattle.of_layers.specs.declared.transport.Transport.TheVariants.{Nothing, Tcp, Udp, Icmpv4, Icmpv6}
-use Rattle.of_layers.specs.Fields.{number_of}
-use Rattle.of_layers.specs.Bits.{bits, bits_of}
+use Rattle.of_layers.specs.{declared.field.Field.Field, declared.transport.Transport.Transport, Fields.number_of, Bits.bits, Bits.bits_of}
 
 -- A number of a header: how many bits it has, and its name, where it has one. A field's name is its number.
 pub record Item : Type 0 where

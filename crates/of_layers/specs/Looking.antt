@@ -1,9 +1,6 @@
 -- Numbers by their names among the cells of layers: their values, and their places.
 use Rattle.std.specs.Prelude.{ℕ, ◌+◌, Bool, false, ◌==◌, if◌then◌else◌, List, [], ◌∷◌, Option, Some, None}
-use Rattle.of_layers.specs.declared.field.Field.{Field}
-use Rattle.of_layers.specs.declared.place.Place.{Place}
-use Rattle.of_layers.specs.Fields.{number_of}
-use Rattle.of_layers.specs.Layers.{Cell}
+use Rattle.of_layers.specs.{declared.field.Field.Field, declared.place.Place.Place, Fields.number_of, Layers.Cell}
 
 abbrev pub name_is : ℕ → Option ℕ → Bool
 name_is n None = false

@@ -1,8 +1,8 @@
 -- The layers of a frame, computed from its bytes.
 use Rattle.std.specs.Prelude.{ℕ, zero, suc, ◌+◌, ◌*◌, ◌/◌, ◌%◌, Bool, not, ◌&&◌, ◌||◌, ◌==◌, nat_le, if◌then◌else◌, List, [], ◌∷◌, length, take, drop, slice_index}
-use Rattle.of_layers.specs.declared.transport.Transport.{Transport}
 use Rattle.of_layers.specs.declared.transport.Transport.TheVariants.{Nothing, Tcp, Udp, Icmpv4, Icmpv6}
 use Rattle.of_layers.specs.Layers.{Carried, Extension, Options, Fragment, Body, Plain, Arp, Ipv4, Ipv6, Layers, size_of}
+use Rattle.of_layers.specs.declared.transport.Transport.{Transport}
 
 -- ---- bytes as a number, from place i on
 

@@ -1,9 +1,8 @@
 -- Which layers a frame can have.
 use Rattle.std.specs.Prelude.{◌≡◌, ℕ, ◌+◌, ◌*◌, ◌^◌, ◌<◌, ◌≤◌, min, Bool, true, false, ◌&&◌, ◌||◌, ◌==◌, List, [], ◌∷◌, length, slice_index}
-use Rattle.of_layers.specs.declared.transport.Transport.{Transport}
-use Rattle.of_layers.specs.declared.transport.Transport.TheVariants.{Nothing}
 use Rattle.of_layers.specs.Layers.{Item, Layers, addresses, inner_tag, arp, ipv4, ipv6, options, fragment, items_of, size_of, Carried, Extension, Options, Fragment, Body, Plain, Arp, Ipv4, Ipv6, all_bytes, next_before, body_cells, encoded}
 use Rattle.of_layers.specs.Reading.{is_tag_type, over_ipv4, over_ipv6, whole_in, kind_behind, has_options, is_fragment, has_extension, is_arp, is_ipv4, is_ipv6}
+use Rattle.of_layers.specs.{declared.transport.Transport.Transport, declared.transport.Transport.TheVariants.Nothing}
 
 abbrev pub AreBytes : List ℕ → Type 0
 AreBytes s = (i : ℕ) → slice_index s i < 256

@@ -1,11 +1,7 @@
 //! What the layers of a frame are: the only ones that encode it.
 
 ghost use Rattle.std.specs.Prelude.{◌≡◌, ◌≤◌, List, ℕ, Some, length};
-ghost use Rattle.of_layers.specs.declared.field.Field.{Field};
-ghost use Rattle.of_layers.specs.Fields.{number_of, field_at};
-ghost use Rattle.of_layers.specs.Layers.{Layers, EncodesLayers};
-ghost use Rattle.of_layers.specs.Reading.{layers_of};
-ghost use Rattle.of_layers.specs.WellFormed.{AreBytes, IsLayers};
+ghost use Rattle.of_layers.specs.{declared.field.Field.Field, Fields.number_of, Fields.field_at, Layers.Layers, Layers.EncodesLayers, Reading.layers_of, WellFormed.AreBytes, WellFormed.IsLayers};
 
 /// A frame is the encoding of the layers that are read from it, and of no others.
 ///

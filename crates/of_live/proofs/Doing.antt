@@ -1,23 +1,13 @@
 -- Events, one after the other.
-use Rattle.std.proofs.Common.{◌≡◌, ◌<◌, ◌+◌, ◌∙◌, ℕ, length, take, get_or, add-one, List, [], ◌∷◌, ◌++◌, Bool, true, false, Some, ap, refl, sym, append_assoc}
-use Rattle.std.specs.Prelude.{map}
-use Rattle.std.specs.List.{flat_map}
-use Rattle.std.proofs.lemmas.List.{append-nil, map-append}
-use Rattle.std.proofs.lemmas.List.Concat.{flat_map-append}
-use Rattle.std.proofs.Math.Seq.{take-suc}
+use Rattle.std.proofs.Common.{◌≡◌, ◌<◌, ◌+◌, ◌∙◌, ℕ, length, take, get_or, add-one, List, [], ◌∷◌, ◌++◌, Bool, true, false, Some, ap, refl, sym, append_assoc, Option}
+use Rattle.std.{specs.Prelude.map, specs.List.flat_map, proofs.lemmas.List.append-nil, proofs.lemmas.List.map-append, proofs.lemmas.List.Concat.flat_map-append, proofs.Math.Seq.take-suc}
 use Rattle.of_datapath.specs.declared.effect.Effect.{Effect}
-use Rattle.of_switch.specs.declared.event.Event.{Event}
-use Rattle.of_switch.specs.declared.event.Report.{Report as Reported}
-use Rattle.of_switch.specs.State.{State}
 use Rattle.of_switch.specs.Runs.{Report, Gives, IsRefused, Run, run, happened, effects_in, report_of, reports_of}
+use Rattle.of_switch.specs.{declared.event.Event.Event, declared.event.Report.Report as Reported, State.State}
 use Rattle.of_serve.specs.Turns.{answer_in, report_effects}
 use Rattle.of_replay.specs.WrittenRows.{row_text}
-use Rattle.std.proofs.Common.{Option}
-use Rattle.of_live.specs.declared.peers.Peer.{Peer}
-use Rattle.of_live.specs.Acts.{Act, Records}
-use Rattle.of_live.specs.Turns.{sent_in}
+use Rattle.of_live.specs.{declared.peers.Peer.Peer, Acts.Act, Acts.Records, Turns.sent_in, Working.Does, Working.LiveWork, Working.logged_text}
 use Rattle.of_live.proofs.Passing.{records_as, records_more}
-use Rattle.of_live.specs.Working.{Does, LiveWork, logged_text}
 
 -- the run of events, and then of others
 pub run_then : (es fs : List Event) (s : State) → run (es ++ fs) s

@@ -1,15 +1,9 @@
 -- Turns, one after the other, and how they end.
 use Rattle.std.proofs.Common.{◌≡◌, ◌<◌, ◌+◌, ◌∙◌, ℕ, List, Bool, Option, Err, ap, refl, sym, subst, inl}
-use Rattle.of_replay.specs.declared.event_file.Ended.TheVariants.{Done}
-use Rattle.of_replay.specs.declared.halt.Halt.{Halt}
-use Rattle.of_replay.specs.declared.halt.Halt.TheVariants.{Bad, Memory, Read, Write}
-use Rattle.of_replay.specs.Stepping.{ended_so}
-use Rattle.of_live.specs.Live.{Live}
-use Rattle.of_live.specs.Acts.{Act, Records}
+use Rattle.of_replay.specs.{declared.event_file.Ended.TheVariants.Done, declared.halt.Halt.Halt}
+use Rattle.of_replay.specs.{declared.halt.Halt.TheVariants.Bad, declared.halt.Halt.TheVariants.Memory, declared.halt.Halt.TheVariants.Read, declared.halt.Halt.TheVariants.Write, Stepping.ended_so}
 use Rattle.of_live.specs.Turns.{LiveTurns, None, Then, AreLiveTurns, live_turn_count, passed, after_live_turns}
-use Rattle.of_live.specs.Working.{GoesOn, LiveHalts}
-use Rattle.of_live.specs.Ends.{Lives}
-use Rattle.of_live.proofs.Passing.{records_more, records_none}
+use Rattle.of_live.{specs.Live.Live, specs.Acts.Act, specs.Acts.Records, specs.Working.GoesOn, specs.Working.LiveHalts, specs.Ends.Lives, proofs.Passing.records_more, proofs.Passing.records_none}
 
 -- so many turns passed
 pub record SoFar (n : ℕ) (keeps : Bool) (l l' : Live) (old new : Option (List Act)) : Type 0 where

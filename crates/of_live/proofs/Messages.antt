@@ -1,20 +1,14 @@
 -- Messages, one after the other, and what a turn hears.
 use Rattle.std.proofs.Common.{◌≡◌, ◌<◌, ◌≤◌, ◌+◌, ◌-◌, ◌∙◌, ℕ, suc, length, take, drop, List, [], ◌∷◌, ◌++◌, Bool, Some, None, ap, refl, sym, subst, arith, append_assoc, length-take-le}
 use Rattle.std.specs.Prelude.{map, false, ◌||◌, ◌&&◌, if◌then◌else◌}
-use Rattle.std.specs.List.{flat_map}
-use Rattle.std.proofs.lemmas.List.{append-nil, map-append}
-use Rattle.of_switch.specs.declared.event.Event.{Event}
-use Rattle.of_switch.specs.declared.event.Event.TheVariants.{Chunk}
-use Rattle.of_switch.specs.State.{State}
-use Rattle.of_switch.specs.Steps.{lost}
+use Rattle.std.{specs.List.flat_map, proofs.lemmas.List.append-nil, proofs.lemmas.List.map-append}
 use Rattle.of_switch.specs.Runs.{Report, Run, run, happened, effects_in}
+use Rattle.of_switch.specs.{declared.event.Event.Event, declared.event.Event.TheVariants.Chunk, State.State, Steps.lost}
 use Rattle.of_serve.specs.Turns.{answer_in, report_effects}
-use Rattle.of_live.specs.declared.state.Asks.{Asks}
-use Rattle.of_live.specs.Inputs.{Came, is_opened}
 use Rattle.of_live.specs.Live.{Live, begun, coming_events, is_connected, is_lost_first, loss, peers_of, rows_after, time_of, unheard_of}
 use Rattle.of_live.specs.Hearing.{Hearing, AreHandled, after_coming, after_message, after_messages, after_hearing, heard_events, most_handled, next_message}
 use Rattle.of_live.specs.Working.{Does, HandlesMessages, Hears, LiveWork, asks_by, logged_text}
-use Rattle.of_live.proofs.Doing.{does_more, does_none, run_then, text_then}
+use Rattle.of_live.{specs.declared.state.Asks.Asks, specs.Inputs.Came, specs.Inputs.is_opened, proofs.Doing.does_more, proofs.Doing.does_none, proofs.Doing.run_then, proofs.Doing.text_then}
 
 -- MESSAGES change only the state, and what waits
 pub others_kept : (ms : List (List ℕ)) (l : Live) → after_messages ms l

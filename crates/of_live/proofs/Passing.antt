@@ -1,9 +1,6 @@
 -- What passed, one after the other.
 use Rattle.std.proofs.Common.{◌≡◌, ◌<◌, ◌+◌, ◌∙◌, ℕ, List, [], ◌∷◌, ◌++◌, length, take, get_or, Option, Some, None, ap, refl, sym, subst, append_assoc, add-one}
-use Rattle.std.specs.List.{flat_map}
-use Rattle.std.proofs.lemmas.List.{append-nil}
-use Rattle.std.proofs.lemmas.List.Concat.{flat_map-append}
-use Rattle.std.proofs.Math.Seq.{take-suc}
+use Rattle.std.{specs.List.flat_map, proofs.lemmas.List.append-nil, proofs.lemmas.List.Concat.flat_map-append, proofs.Math.Seq.take-suc}
 use Rattle.of_live.specs.Acts.{Act, Records}
 
 pub records_none : (known : Option (List Act)) → Records known [] known

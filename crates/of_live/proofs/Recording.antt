@@ -1,31 +1,19 @@
 -- The events of turns, as one run.
 use Rattle.std.proofs.Common.{◌≡◌, ◌∙◌, ℕ, List, [], ◌∷◌, ◌++◌, Bool, true, false, Option, Some, None as Nobody, Result, Ok, Err, ap, refl, sym, append_assoc}
-use Rattle.std.specs.Prelude.{map, nat_lt, if◌then◌else◌}
-use Rattle.std.specs.List.{flat_map, AllByRecursion}
-use Rattle.std.proofs.lemmas.List.{append-nil, map-append}
+use Rattle.std.{specs.Prelude.map, specs.Prelude.nat_lt, specs.Prelude.if◌then◌else◌, specs.List.flat_map, specs.List.AllByRecursion, proofs.lemmas.List.append-nil, proofs.lemmas.List.map-append}
 use Rattle.std.proofs.lemmas.List.Concat.{flat_map-append}
-use Rattle.of_live.specs.Header.{Encapsulated, carried, sent_header}
+use Rattle.of_live.specs.Live.{Live, begun, is_lost_first, loss, peers_of, received_datagram}
+use Rattle.of_live.specs.Turns.{LiveTurn, LiveTurns, None, Then, turn_acts, closes, dropped_in, dropped_of, drops, live_effects, is_closed, is_written, logs, offered, passed, rows_text, sent_acts, sent_in, sent_to, after_live_turns, writes}
+use Rattle.of_live.specs.{Header.Encapsulated, Header.carried, Header.sent_header, Inputs.Came, Inputs.Time, Inputs.Datagram, Peers.peer_of}
+use Rattle.of_live.specs.{Hearing.Hearing, Hearing.events_of, Hearing.after_hearing, Hearing.heard_events, declared.network.Dropped.Dropped, declared.peers.Peer.Peer}
+use Rattle.of_live.specs.{Acts.Act, Acts.Drops, Acts.Sends, Acts.Writes, Recorded.effects, Recorded.events, Recorded.log_of, Recorded.logged_rows}
+use Rattle.of_live.proofs.{Doing.run_then, Messages.heard_state}
 use Rattle.of_datapath.specs.declared.effect.Effect.{Effect}
 use Rattle.of_datapath.specs.declared.effect.Effect.TheVariants as effect
-use Rattle.of_switch.specs.declared.event.Event.{Event}
-use Rattle.of_switch.specs.State.{State}
-use Rattle.of_switch.specs.Steps.{lost}
 use Rattle.of_switch.specs.Runs.{Report, Gives, IsRefused, Run, run, effects_in}
-use Rattle.of_replay.specs.Lexing.{lines_of_file}
-use Rattle.of_replay.specs.Rows.{rows_of_lines, events_in as row_events}
-use Rattle.of_replay.specs.WrittenRows.{HasLine, file_text, row_text}
-use Rattle.of_live.specs.Inputs.{Came, Time, Datagram}
-use Rattle.of_live.specs.Peers.{peer_of}
-use Rattle.of_live.specs.Live.{Live, begun, is_lost_first, loss, peers_of, received_datagram}
-use Rattle.of_live.specs.Hearing.{Hearing, events_of, after_hearing, heard_events}
-use Rattle.of_live.specs.declared.network.Dropped.{Dropped}
+use Rattle.of_switch.specs.{declared.event.Event.Event, State.State, Steps.lost}
+use Rattle.of_replay.specs.{Lexing.lines_of_file, Rows.rows_of_lines, Rows.events_in as row_events, WrittenRows.HasLine, WrittenRows.file_text, WrittenRows.row_text}
 use Rattle.of_live.specs.declared.network.Dropped.TheVariants as dropped
-use Rattle.of_live.specs.declared.peers.Peer.{Peer}
-use Rattle.of_live.specs.Acts.{Act, Drops, Sends, Writes}
-use Rattle.of_live.specs.Turns.{LiveTurn, LiveTurns, None, Then, turn_acts, closes, dropped_in, dropped_of, drops, live_effects, is_closed, is_written, logs, offered, passed, rows_text, sent_acts, sent_in, sent_to, after_live_turns, writes}
-use Rattle.of_live.specs.Recorded.{effects, events, log_of, logged_rows}
-use Rattle.of_live.proofs.Doing.{run_then}
-use Rattle.of_live.proofs.Messages.{heard_state}
 
 -- A LOSS FIRST, which gives nothing
 

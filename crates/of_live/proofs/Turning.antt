@@ -1,24 +1,16 @@
 -- A turn, from its parts.
 use Rattle.std.proofs.Common.{◌≡◌, ◌∙◌, ℕ, List, [], ◌∷◌, ◌++◌, length, Bool, true, false, Option, Result, Ok, Err, Some, ap, refl, sym, subst, arith, append_assoc}
-use Rattle.std.specs.Prelude.{◌==◌, if◌then◌else◌}
-use Rattle.std.proofs.lemmas.Bool.Decides.{nat_tests}
-use Rattle.std.specs.List.{flat_map}
-use Rattle.of_switch.specs.Runs.{effects_in}
-use Rattle.of_live.specs.declared.peers.Peer.{Peer}
-use Rattle.of_replay.specs.declared.halt.Halt.{Halt}
-use Rattle.of_replay.specs.declared.halt.Halt.TheVariants.{Bad, Memory, Read, Write}
-use Rattle.of_switch.specs.declared.event.Event.{Event}
-use Rattle.of_replay.specs.WrittenRows.{row_text}
-use Rattle.of_live.specs.declared.state.Asks.{Asks}
-use Rattle.of_live.specs.Inputs.{Came, Fault, Time, is_fault}
-use Rattle.of_live.specs.declared.network.Wanted.{Wanted}
-use Rattle.of_live.specs.Live.{Live, begun, peers_of}
+use Rattle.std.{specs.Prelude.◌==◌, specs.Prelude.if◌then◌else◌, specs.List.flat_map, proofs.lemmas.Bool.Decides.nat_tests}
+use Rattle.of_switch.specs.{Runs.effects_in, declared.event.Event.Event}
 use Rattle.of_live.specs.Hearing.{Hearing, after_coming, events_of, after_hearing, wanted_of}
-use Rattle.of_live.specs.Acts.{Act, Records, Told, Logs}
 use Rattle.of_live.specs.Turns.{LiveTurn, closes, drops, is_closed, logs, rows_text, sent_acts, sent_in, writes}
 use Rattle.of_live.specs.Working.{Goes, Hears, Passes, Settles, LiveWork, asks_of, hearing_of, logged, logged_text, live_turn_of}
-use Rattle.of_live.proofs.Messages.{others_kept}
+use Rattle.of_live.specs.{declared.peers.Peer.Peer, declared.state.Asks.Asks, Inputs.Came, Inputs.Fault, Inputs.Time, Inputs.is_fault, declared.network.Wanted.Wanted}
+use Rattle.of_live.{specs.Live.Live, specs.Live.begun, specs.Live.peers_of, specs.Acts.Act, specs.Acts.Records, specs.Acts.Told, specs.Acts.Logs, proofs.Messages.others_kept}
 use Rattle.of_live.proofs.Passing.{records_as, records_more}
+use Rattle.of_replay.specs.declared.halt.Halt.{Halt}
+use Rattle.of_replay.specs.declared.halt.Halt.TheVariants.{Bad, Memory, Read, Write}
+use Rattle.of_replay.specs.WrittenRows.{row_text}
 
 -- THE ROWS
 

@@ -1,9 +1,6 @@
 -- WHAT PASSES between a switch and its network, in order.
 use Rattle.std.specs.Prelude.{◌≡◌, ℕ, Bool, List, ◌++◌, Option, Some, None as Nobody}
-use Rattle.of_live.specs.declared.network.Endpoint.{Endpoint}
-use Rattle.of_live.specs.declared.network.Dropped.{Dropped}
-use Rattle.of_live.specs.declared.network.Wanted.{Wanted}
-use Rattle.of_live.specs.Inputs.{Came}
+use Rattle.of_live.specs.{declared.network.Endpoint.Endpoint, declared.network.Dropped.Dropped, declared.network.Wanted.Wanted, Inputs.Came}
 
 pub data Act : Type 0 where
   -- the switch wanted this, and the network told that

@@ -1,12 +1,9 @@
 -- HOW A SWITCH ON A NETWORK ENDS, and what passed until then.
 use Rattle.std.specs.Prelude.{◌≡◌, ◌⊎◌, ℕ, ◌<◌, Bool, true, false, List, [], ◌∷◌, ◌++◌, Option, if◌then◌else◌}
-use Rattle.of_replay.specs.declared.event_file.Ended.{Ended as Ending}
 use Rattle.of_replay.specs.declared.event_file.Ended.TheVariants.{Done, BadRow, Text, ReadFault, WriteFault, NoMemory}
-use Rattle.of_live.specs.Inputs.{Came, Fault}
-use Rattle.of_live.specs.Live.{Live}
-use Rattle.of_live.specs.Hearing.{Hearing, IsHearing, events_of, wanted_of}
-use Rattle.of_live.specs.Acts.{Act, Records, Told, Logs}
+use Rattle.of_replay.specs.declared.event_file.Ended.{Ended as Ending}
 use Rattle.of_live.specs.Turns.{LiveTurns, None, AreLiveTurns, live_turn_count, after_live_turns, passed, drops, rows_text}
+use Rattle.of_live.specs.{Inputs.Came, Inputs.Fault, Live.Live, Hearing.Hearing, Hearing.IsHearing, Hearing.events_of, Hearing.wanted_of, Acts.Act, Acts.Records, Acts.Told, Acts.Logs}
 
 -- After whole turns: all that were asked for; the network failed; the log could not be written; or memory ran out. Of a turn
 -- that is not whole nothing goes out, and what came in it is told.

@@ -1,15 +1,11 @@
 -- WHAT A SWITCH ON A NETWORK HEARS in a turn: what comes, and messages of its controller, so many that no frame waits long for them.
 use Rattle.std.specs.Prelude.{◌≡◌, ℕ, zero, suc, nat_lt, not, ◌&&◌, Bool, List, [], ◌∷◌, ◌++◌, length, drop, map, Option, Some, None, if◌then◌else◌}
-use Rattle.std.specs.Option.{is_some}
-use Rattle.std.specs.List.{flat_map}
+use Rattle.std.specs.{Option.is_some, List.flat_map}
 use Rattle.of_session.specs.Stream.{First, Whole, Bad, Partial, beginning_of}
-use Rattle.of_switch.specs.declared.event.Event.{Event}
-use Rattle.of_switch.specs.declared.event.Event.TheVariants.{Chunk}
-use Rattle.of_switch.specs.Runs.{happened, run, effects_in}
+use Rattle.of_switch.specs.{declared.event.Event.Event, declared.event.Event.TheVariants.Chunk, Runs.happened, Runs.run, Runs.effects_in}
 use Rattle.of_serve.specs.Turns.{answer_in, report_effects}
-use Rattle.of_live.specs.declared.network.Wanted.{Wanted}
-use Rattle.of_live.specs.Inputs.{Came, Datagram, Row}
 use Rattle.of_live.specs.Live.{Live, begun, coming_events, is_connected, is_lost_first, loss, peers_of, rows_after, time_of, unheard_of}
+use Rattle.of_live.specs.{declared.network.Wanted.Wanted, Inputs.Came, Inputs.Datagram, Inputs.Row}
 
 -- what came, and the messages that were handled
 pub record Hearing : Type 0 where

@@ -1,8 +1,7 @@
 -- WHAT COMES to a switch on a network: what the network tells at one time.
 use Rattle.std.specs.Prelude.{ℕ, ◌≤◌, Bool, true, false, List, take}
 use Rattle.of_switch.specs.declared.event.Event.{Event}
-use Rattle.of_live.specs.declared.network.Endpoint.{Endpoint}
-use Rattle.of_live.specs.declared.network.Input.{Input}
+use Rattle.of_live.specs.{declared.network.Endpoint.Endpoint, declared.network.Input.Input}
 use Rattle.of_live.specs.declared.network.Input.TheVariants as input
 
 pub data Came : Type 0 where

@@ -1,19 +1,14 @@
 -- A SWITCH ON A NETWORK: what it holds, and what comes to it. Port N is VXLAN network N (RFC 7348).
 use Rattle.std.specs.Prelude.{ℕ, ◌&&◌, ◌||◌, not, Bool, true, false, List, [], ◌∷◌, ◌++◌, Option, Some, None, Result, Ok, Err, if◌then◌else◌}
-use Rattle.of_live.specs.Header.{Encapsulated, carried}
+use Rattle.of_live.specs.Inputs.{Came, Time, Datagram, Opened, Heard, Ended, Row, is_opened}
+use Rattle.of_live.specs.{Header.Encapsulated, Header.carried, declared.network.Endpoint.Endpoint, declared.network.Dropped.Dropped, declared.peers.Peer.Peer}
+use Rattle.of_live.specs.Peers.{peer_of, may_be_from, heard_from}
 use Rattle.of_session.specs.Session.{is_disconnected}
 use Rattle.of_ports.specs.Ports.{has_port}
-use Rattle.of_switch.specs.declared.event.Event.{Event}
 use Rattle.of_switch.specs.declared.event.Event.TheVariants.{Connect, Lost, Frame, Moment, Ports}
-use Rattle.of_switch.specs.State.{State}
-use Rattle.of_switch.specs.Steps.{lost}
+use Rattle.of_switch.specs.{declared.event.Event.Event, State.State, Steps.lost}
 use Rattle.of_serve.specs.Turns.{due, left}
-use Rattle.of_live.specs.declared.network.Endpoint.{Endpoint}
-use Rattle.of_live.specs.declared.network.Dropped.{Dropped}
 use Rattle.of_live.specs.declared.network.Dropped.TheVariants as dropped
-use Rattle.of_live.specs.declared.peers.Peer.{Peer}
-use Rattle.of_live.specs.Inputs.{Came, Time, Datagram, Opened, Heard, Ended, Row, is_opened}
-use Rattle.of_live.specs.Peers.{peer_of, may_be_from, heard_from}
 
 pub record Live : Type 0 where
   pub state : State

@@ -1,8 +1,7 @@
 -- WHERE THE FRAMES OF A PORT GO.
 use Rattle.std.specs.Prelude.{ℕ, ◌==◌, ◌&&◌, ◌||◌, not, map, Bool, true, false, List, [], ◌∷◌, ◌++◌, Option, Some, None, if◌then◌else◌}
 use Rattle.std.specs.List.{find, list_any}
-use Rattle.of_live.specs.declared.network.Endpoint.{Endpoint}
-use Rattle.of_live.specs.declared.peers.Peer.{Peer}
+use Rattle.of_live.specs.{declared.network.Endpoint.Endpoint, declared.peers.Peer.Peer}
 
 abbrev pub peer_of : ℕ → List Peer → Option Peer
 peer_of number peers = find (λ p. p.port == number) peers

@@ -3,10 +3,8 @@ use Rattle.std.specs.Prelude.{ℕ, true, List, [], ◌++◌}
 use Rattle.std.specs.List.{flat_map}
 use Rattle.of_datapath.specs.declared.effect.Effect.{Effect}
 use Rattle.of_switch.specs.declared.event.Event.{Event}
-use Rattle.of_live.specs.Live.{Live}
-use Rattle.of_live.specs.Hearing.{events_of}
-use Rattle.of_live.specs.Acts.{Act, Logs}
 use Rattle.of_live.specs.Turns.{LiveTurns, None, Then, live_effects, after_live_turns}
+use Rattle.of_live.specs.{Live.Live, Hearing.events_of, Acts.Act, Acts.Logs}
 
 -- all events of turns, in order
 abbrev pub events : Live → LiveTurns → List Event

@@ -1,7 +1,6 @@
 -- EVENT ROWS THAT ARE WRITTEN WHILE THE SWITCH RUNS: frames, and changes of ports. The clock and the network tell all else.
 use Rattle.std.specs.Prelude.{Option, Some, None}
-use Rattle.of_switch.specs.declared.event.Event.{Event}
-use Rattle.of_switch.specs.declared.event.Event.TheVariants.{Frame, Ports}
+use Rattle.of_switch.specs.{declared.event.Event.Event, declared.event.Event.TheVariants.Frame, declared.event.Event.TheVariants.Ports}
 use Rattle.of_live.specs.declared.running_rows.RunningRow.{RunningRow}
 use Rattle.of_live.specs.declared.running_rows.RunningRow.TheVariants.{Happens, Skipped, Bad}
 

@@ -1,20 +1,15 @@
 -- TURNS of a switch on a network: something comes, its events happen, what they give goes out.
 use Rattle.std.specs.Prelude.{◌≡◌, ℕ, ◌+◌, ◌-◌, ◌≤◌, nat_lt, nat_le, not, ◌&&◌, ◌||◌, ◌==◌, Bool, true, false, List, [], ◌∷◌, ◌++◌, length, drop, map, Option, Some, None as Nobody, Result, Ok, Err, if◌then◌else◌}
 use Rattle.std.specs.List.{flat_map}
-use Rattle.of_live.specs.Header.{Encapsulated, carried, sent_header}
-use Rattle.of_datapath.specs.declared.effect.Effect.{Effect}
-use Rattle.of_datapath.specs.declared.effect.Effect.TheVariants.{Sent}
-use Rattle.of_switch.specs.declared.event.Event.{Event}
-use Rattle.of_switch.specs.Runs.{run, effects_in}
-use Rattle.of_replay.specs.WrittenRows.{file_text}
-use Rattle.of_live.specs.declared.network.Dropped.{Dropped}
-use Rattle.of_live.specs.declared.network.Dropped.TheVariants as dropped
-use Rattle.of_live.specs.declared.peers.Peer.{Peer}
 use Rattle.of_live.specs.Inputs.{Came, Datagram, Opened, Ended, is_fault, is_ready}
 use Rattle.of_live.specs.Acts.{Act, Told, Drops, Logs, Sends, Writes, Closes}
-use Rattle.of_live.specs.Peers.{peer_of}
 use Rattle.of_live.specs.Live.{Live, received_datagram, is_connected, begun, peers_of}
 use Rattle.of_live.specs.Hearing.{Hearing, IsHearing, events_of, after_hearing, heard_events, wanted_of}
+use Rattle.of_live.specs.{Header.Encapsulated, Header.carried, Header.sent_header, declared.network.Dropped.Dropped, declared.peers.Peer.Peer, Peers.peer_of}
+use Rattle.of_datapath.specs.{declared.effect.Effect.Effect, declared.effect.Effect.TheVariants.Sent}
+use Rattle.of_switch.specs.{declared.event.Event.Event, Runs.run, Runs.effects_in}
+use Rattle.of_replay.specs.WrittenRows.{file_text}
+use Rattle.of_live.specs.declared.network.Dropped.TheVariants as dropped
 
 -- A TURN: what was heard, and how a write to the connection, if there was one, ended
 pub record LiveTurn : Type 0 where

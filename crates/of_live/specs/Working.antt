@@ -2,16 +2,11 @@
 use Rattle.std.specs.Prelude.{◌≡◌, ℕ, ◌≤◌, nat_lt, not, ◌&&◌, ◌||◌, ◌==◌, length, drop, map, Bool, true, false, List, [], ◌∷◌, ◌++◌, Option, Result, Ok, Err, if◌then◌else◌}
 use Rattle.of_replay.specs.declared.halt.Halt.{Halt}
 use Rattle.of_replay.specs.declared.halt.Halt.TheVariants.{Bad, Memory, Read, Write}
-use Rattle.of_switch.specs.declared.event.Event.{Event}
-use Rattle.of_switch.specs.declared.event.Event.TheVariants.{Chunk}
-use Rattle.of_switch.specs.State.{State}
-use Rattle.of_switch.specs.Runs.{Report, run, effects_in}
-use Rattle.of_live.specs.declared.state.Asks.{Asks}
-use Rattle.of_live.specs.Inputs.{Came, Fault, is_ready}
-use Rattle.of_live.specs.Live.{Live, is_connected, begun}
+use Rattle.of_switch.specs.{declared.event.Event.Event, declared.event.Event.TheVariants.Chunk, State.State, Runs.Report, Runs.run, Runs.effects_in}
 use Rattle.of_live.specs.Hearing.{Hearing, AreHandled, IsHearing, after_messages, events_of, after_hearing, wanted_of}
 use Rattle.of_live.specs.Acts.{Act, Records, Told, Logs, Writes}
 use Rattle.of_live.specs.Turns.{LiveTurn, IsLiveTurn, turn_acts, after_live_turn, closes, drops, live_effects, has_no_bytes, is_flooded, is_stuck, may_write, offered, results, rows_text}
+use Rattle.of_live.specs.{declared.state.Asks.Asks, Inputs.Came, Inputs.Fault, Inputs.is_ready, Live.Live, Live.is_connected, Live.begun}
 
 -- what events gave, and their rows
 pub record LiveWork : Type 0 where

@@ -1,6 +1,5 @@
 //! The header of VXLAN.
-ghost use Rattle.std.specs.Prelude.{◌≡◌, ◌<◌, ◌^◌};
-ghost use Rattle.std.specs.Option.{option_map};
+ghost use Rattle.std.specs.{Prelude.◌≡◌, Prelude.◌<◌, Prelude.◌^◌, Option.option_map};
 ghost use Rattle.of_live.specs.Header.{carried, sent_header};
 
 use byteorder::{BigEndian, ByteOrder};

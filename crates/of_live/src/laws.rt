@@ -2,12 +2,8 @@
 ghost use Rattle.std.specs.Prelude.{◌≡◌, List, map, Some, None, true};
 ghost use Rattle.std.specs.List.{AllByRecursion};
 ghost use Rattle.of_switch.specs.Runs.{effects_in, run};
-ghost use Rattle.of_replay.specs.Lexing.{lines_of_file};
-ghost use Rattle.of_replay.specs.Rows.{rows_of_lines};
-ghost use Rattle.of_replay.specs.WrittenRows.{HasLine};
-ghost use Rattle.of_live.specs.Live.{Live};
-ghost use Rattle.of_live.specs.Turns.{LiveTurns, passed, rows_text, after_live_turns};
-ghost use Rattle.of_live.specs.Recorded.{effects, events, log_of};
+ghost use Rattle.of_replay.specs.{Lexing.lines_of_file, Rows.rows_of_lines, WrittenRows.HasLine};
+ghost use Rattle.of_live.specs.{Live.Live, Turns.LiveTurns, Turns.passed, Turns.rows_text, Turns.after_live_turns, Recorded.effects, Recorded.events, Recorded.log_of};
 
 use of_replay::written_rows_are_read;
 

@@ -1,7 +1,6 @@
 //! Where the frames of ports go.
 ghost use Rattle.std.specs.Prelude.{◌≡◌, ◌==◌, map, OnOk, OnErr};
-ghost use Rattle.std.specs.List.{list_any};
-ghost use Rattle.std.specs.Option.{option_copied, option_map};
+ghost use Rattle.std.specs.{List.list_any, Option.option_copied, Option.option_map};
 ghost use Rattle.of_live.specs.Peers.{heard_from, may_be_from as may, peer_moved as moved_to, peer_of as found};
 
 use crate::network::Endpoint;

@@ -1,18 +1,13 @@
 //! A switch on a network.
 ghost use Rattle.std.specs.Prelude.{◌≡◌, ◌≤◌, ◌<◌, ◌++◌, ◌∷◌, [], OnOk, IfOk, IfErr, IfSome, Ok, Err, length, take, ◌||◌, ◌&&◌, if◌then◌else◌, true, false, not, drop, Bool, List, ℕ};
-ghost use Rattle.of_live.specs.Header.{carried};
-ghost use Rattle.of_switch.specs.declared.event.Event.TheVariants.{Chunk, Moment};
-ghost use Rattle.of_switch.specs.Steps.{lost};
-ghost use Rattle.of_switch.specs.Runs.{effects_in};
-ghost use Rattle.of_serve.specs.Turns.{answer_in, due, left};
-ghost use Rattle.std.specs.List.{flat_map};
-ghost use Rattle.std.specs.Option.{option_map};
-ghost use Rattle.of_live.specs.Inputs.{IsInput, came_of};
+ghost use Rattle.std.specs.{List.flat_map, Option.option_map};
 ghost use Rattle.of_live.specs.Live.{running_row_events, coming_events, frame_event, is_connected as connected, loss, peers_after, peers_of, received_datagram, rows_after, time_of, unheard_of};
 ghost use Rattle.of_live.specs.Hearing.{after_message, first_message, has_room as room_left, most_handled as most_after, next_message, wanted_of};
-ghost use Rattle.of_live.specs.Acts.{Records, Writes};
 ghost use Rattle.of_live.specs.Turns.{closes as closing_acts, dropped_in, dropped_of, drops, is_flooded as flooded, is_stuck as stuck, may_write as may_write_after};
 ghost use Rattle.of_live.specs.Working.{Does, Goes, HandlesMessages, Hears, Passes, Settles, asks_by, is_closing, offered_acts, offered_to, offers, logged_text};
+ghost use Rattle.of_live.specs.{Header.carried, Inputs.IsInput, Inputs.came_of, Acts.Records, Acts.Writes};
+ghost use Rattle.of_switch.specs.{declared.event.Event.TheVariants.Chunk, declared.event.Event.TheVariants.Moment, Steps.lost, Runs.effects_in};
+ghost use Rattle.of_serve.specs.Turns.{answer_in, due, left};
 
 use crate::work::{Work, happen, happen_due, happen_frame};
 use crate::{

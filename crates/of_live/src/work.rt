@@ -1,13 +1,9 @@
 //! Events, what they give, and their rows.
 ghost use Rattle.std.specs.Prelude.{◌≡◌, ◌∷◌, ◌++◌, [], true, length, OnOk};
 ghost use Rattle.std.specs.List.{flat_map};
-ghost use Rattle.of_switch.specs.declared.event.Event.TheVariants.{Frame, Lost};
-ghost use Rattle.of_switch.specs.Runs.{Gives as Given, effects_in, report_of, reports_of};
+ghost use Rattle.of_switch.specs.{declared.event.Event.TheVariants.Frame, declared.event.Event.TheVariants.Lost, Runs.Gives as Given, Runs.effects_in, Runs.report_of, Runs.reports_of};
 ghost use Rattle.of_serve.specs.Turns.{events_of_row, answer_in, due, report_effects as effects_given, left, waits as has_to_wait};
-ghost use Rattle.of_live.specs.Peers.{peer_of as peer_of_port};
-ghost use Rattle.of_live.specs.Acts.{Records};
-ghost use Rattle.of_live.specs.Turns.{sent_in, sent_to};
-ghost use Rattle.of_live.specs.Working.{Does, logged, logged_text};
+ghost use Rattle.of_live.specs.{Peers.peer_of as peer_of_port, Acts.Records, Turns.sent_in, Turns.sent_to, Working.Does, Working.logged, Working.logged_text};
 
 use crate::{Dropped, Network, Peer, peer_of, push_frame_row, push_row, write_header};
 use of_classifier::Lookup;

@@ -1,14 +1,9 @@
 -- Frames whose TTL is not decremented.
 use Rattle.std.proofs.Common.{◌≡◌, ◌≢◌, ℕ, ◌-◌, true, false, cond, List, Option, Some, None, refl, sym, ap, ◌∙◌}
 use Rattle.std.specs.Prelude.{nat_le}
-use Rattle.of_layers.specs.Layers.{Layers, cells, ttl}
-use Rattle.of_layers.specs.Reading.{layers_of}
-use Rattle.of_layers.proofs.FrameLemmas.{frame_encoded}
-use Rattle.of_rewrite.specs.declared.frame.Ttl.TheVariants.{Done, Expired}
-use Rattle.of_rewrite.specs.TimeToLive.{ttl_of, dec_ttl_result, ttl_decremented_from}
-use Rattle.of_rewrite.specs.Frames.{IsFrame, bytes_in, frame_ttl_decremented}
-use Rattle.of_rewrite.specs.Rewriting.{number_set}
-use Rattle.of_rewrite.proofs.Framing.{bytes_are}
+use Rattle.of_layers.{specs.Layers.Layers, specs.Layers.cells, specs.Layers.ttl, specs.Reading.layers_of, proofs.FrameLemmas.frame_encoded}
+use Rattle.of_rewrite.specs.{declared.frame.Ttl.TheVariants.Done, declared.frame.Ttl.TheVariants.Expired, TimeToLive.ttl_of, TimeToLive.dec_ttl_result, TimeToLive.ttl_decremented_from}
+use Rattle.of_rewrite.{specs.Frames.IsFrame, specs.Frames.bytes_in, specs.Frames.frame_ttl_decremented, specs.Rewriting.number_set, proofs.Framing.bytes_are}
 
 from_same : (o : Option ℕ) (l : Layers) → dec_ttl_result o ≢ Done → ttl_decremented_from o l ≡ cells l
 from_same None l not_done = refl

@@ -1,10 +1,7 @@
 -- Steps after steps.
 use Rattle.std.proofs.Common.{◌≡◌, ℕ, ◌+◌, suc, zero, List, [], ◌∷◌, refl, sym, ◌∙◌, ap, arith, zero-add}
-use Rattle.of_machine.specs.TheWorld.{TheWorld}
-use Rattle.of_machine.specs.declared.data.Packet.{Packet}
-use Rattle.of_machine.specs.Rows.{Work, Task, task}
-use Rattle.of_machine.specs.Weights.{task_weight}
 use Rattle.of_machine.specs.Runs.{Machine, step, first_step, after, or_end, until_none, starting, run_of}
+use Rattle.of_machine.specs.{TheWorld.TheWorld, declared.data.Packet.Packet, Rows.Work, Rows.Task, Rows.task, Weights.task_weight}
 
 module _ (w : TheWorld) where
   -- once no packet is left, nothing changes

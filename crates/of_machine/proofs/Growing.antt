@@ -3,36 +3,25 @@ use Rattle.std.proofs.Common.{◌≡◌, ◌==◌, ℕ, ◌+◌, ◌*◌, ◌-�
 use Rattle.std.specs.Prelude.{IsTrue, nat_lt, unwrap_or, map, max, ⊤, ◌||◌}
 use Rattle.std.specs.List.{All, list_all}
 use Rattle.of_wire.specs.declared.limits.TheConstants.{OFPP_ALL, OFPP_CONTROLLER, OFPP_FLOOD, OFPP_IN_PORT, OFPP_TABLE}
-use Rattle.of_layers.specs.Reading.{layers_of}
-use Rattle.of_layers.proofs.TestLemmas.{and_true}
-use Rattle.of_rewrite.specs.declared.frame.Ttl.{Ttl}
-use Rattle.of_rewrite.specs.declared.frame.Ttl.TheVariants.{Done, Expired, Absent}
-use Rattle.of_rewrite.specs.TimeToLive.{ttl_of, dec_ttl_result}
-use Rattle.of_rewrite.specs.Frames.{IsFrame, frame_ttl_decremented}
+use Rattle.of_layers.{specs.Reading.layers_of, proofs.TestLemmas.and_true}
 use Rattle.of_rewrite.proofs.Framing.{set_frame, ttl_frame, aged_frame, pushed_frame, popped_frame}
+use Rattle.of_rewrite.specs.{declared.frame.Ttl.Ttl, declared.frame.Ttl.TheVariants.Done, declared.frame.Ttl.TheVariants.Expired, declared.frame.Ttl.TheVariants.Absent}
+use Rattle.of_rewrite.specs.{TimeToLive.ttl_of, TimeToLive.dec_ttl_result, Frames.IsFrame, Frames.frame_ttl_decremented}
+use Rattle.of_actions.specs.declared.instruction.Instruction.TheVariants.{Apply, Clear, Write, Metadata, Goto}
 use Rattle.of_actions.specs.declared.action.Action.{Action}
 use Rattle.of_actions.specs.declared.action.Action.TheVariants.{Output, PushVlan, Group, DecNwTtl}
-use Rattle.of_actions.specs.declared.instruction.Instruction.{Instruction}
-use Rattle.of_actions.specs.declared.instruction.Instruction.TheVariants.{Apply, Clear, Write, Metadata, Goto}
-use Rattle.of_actions.specs.InstructionLists.{run_place, is_served_body}
-use Rattle.of_actions.specs.Rising.{is_ascending}
-use Rattle.of_actions.specs.Supported.{is_supported}
+use Rattle.of_actions.specs.{declared.instruction.Instruction.Instruction, InstructionLists.run_place, InstructionLists.is_served_body, Rising.is_ascending, Supported.is_supported}
 use Rattle.of_action_set.specs.Sets.{rank, with_actions, in_order}
 use Rattle.of_table.specs.declared.flow.Flow.{Flow}
-use Rattle.of_ports.specs.declared.port.Port.{Port}
-use Rattle.of_machine.specs.declared.data.Packet.{Packet}
-use Rattle.of_machine.specs.declared.data.Item.{Item}
-use Rattle.of_machine.specs.declared.data.Item.TheVariants.{Sent}
-use Rattle.of_ports.specs.Ports.{may_send, port_at, other_ports}
-use Rattle.of_machine.specs.TheWorld.{TheWorld}
+use Rattle.of_ports.specs.{declared.port.Port.Port, Ports.may_send, Ports.port_at, Ports.other_ports}
 use Rattle.of_machine.specs.Sound.{longest, IsSound, IsBelow, AllBelow, IsBucket, AllBuckets}
 use Rattle.of_machine.specs.Rows.{Work, Lookup, Do, RunSet, Act, Task, task, row, acts, works, key_of, lookup_row, entry_row, at_entry, output_row, rewritten, dec_ttl_row, group_action_row, copies, with_metadata, set_out, Emitted, emission, to_port}
-use Rattle.of_machine.specs.Weights.{IsSet, AllFitWork, IsFit, AllFit}
 use Rattle.of_machine.specs.Runs.{Machine, step, first_step, after, starting}
 use Rattle.of_machine.specs.Growth.{table_pushes, act_pushes, list_pushes, work_pushes, IsLow, AllLow, frame_of, AllShort, AllFrames}
 use Rattle.of_machine.proofs.Promises.{out_of_tables, list_served, all_are_below, all_below_more, set_below, order_below}
-use Rattle.of_machine.proofs.Sets.{empty_set, written_set, run_set}
 use Rattle.of_machine.proofs.Weighing.{AllInstructions, IsInOrder, instructions_are, order_is, begins_low, bounded}
+use Rattle.of_machine.specs.{declared.data.Packet.Packet, declared.data.Item.Item, declared.data.Item.TheVariants.Sent, TheWorld.TheWorld}
+use Rattle.of_machine.{specs.Weights.IsSet, specs.Weights.AllFitWork, specs.Weights.IsFit, specs.Weights.AllFit, proofs.Sets.empty_set, proofs.Sets.written_set, proofs.Sets.run_set}
 
 -- ---- items
 

@@ -1,34 +1,23 @@
 -- What each row moves.
 use Rattle.std.proofs.Common.{◌≡◌, ◌≢◌, ◌==◌, ℕ, ◌+◌, ◌<◌, suc, Bool, true, false, List, [], ◌∷◌, ◌++◌, refl, sym, ◌∙◌, ap, subst, length, get_or, drop, Some, None, append_assoc, add-one, drop-cons, ◌⊎◌, inl, inr}
-use Rattle.std.specs.Prelude.{map, IsTrue}
-use Rattle.std.proofs.lemmas.List.{append-nil}
-use Rattle.of_wire.specs.declared.limits.TheConstants.{OFPP_TABLE}
+use Rattle.std.{specs.Prelude.map, specs.Prelude.IsTrue, proofs.lemmas.List.append-nil}
+use Rattle.of_wire.specs.{declared.limits.TheConstants.OFPP_TABLE, declared.reasons.PacketInReason.TheVariants.InvalidTtl}
 use Rattle.of_layers.specs.Reading.{layers_of}
-use Rattle.of_rewrite.specs.declared.frame.Ttl.{Ttl}
-use Rattle.of_rewrite.specs.declared.frame.Ttl.TheVariants.{Done, Expired, Absent}
-use Rattle.of_rewrite.specs.TimeToLive.{ttl_of, dec_ttl_result}
-use Rattle.of_rewrite.specs.Frames.{IsFrame, frame_ttl_decremented}
+use Rattle.of_rewrite.specs.{declared.frame.Ttl.Ttl, declared.frame.Ttl.TheVariants.Done, declared.frame.Ttl.TheVariants.Expired, declared.frame.Ttl.TheVariants.Absent}
+use Rattle.of_rewrite.specs.{TimeToLive.ttl_of, TimeToLive.dec_ttl_result, Frames.IsFrame, Frames.frame_ttl_decremented}
+use Rattle.of_actions.specs.declared.instruction.Instruction.TheVariants.{Apply, Clear, Write, Metadata, Goto}
 use Rattle.of_actions.specs.declared.action.Action.{Action}
 use Rattle.of_actions.specs.declared.action.Action.TheVariants.{Output, Group as ToGroup, DecNwTtl}
 use Rattle.of_actions.specs.declared.instruction.Instruction.{Instruction}
-use Rattle.of_actions.specs.declared.instruction.Instruction.TheVariants.{Apply, Clear, Write, Metadata, Goto}
 use Rattle.of_action_set.specs.Sets.{with_actions, in_order}
 use Rattle.of_table.specs.declared.flow.Flow.{Flow}
-use Rattle.of_machine.specs.declared.data.Packet.{Packet}
-use Rattle.of_wire.specs.declared.reasons.PacketInReason.TheVariants.{InvalidTtl}
-use Rattle.of_machine.specs.declared.data.Count.TheVariants.{Lookup as CountLookup, Matched, Group as CountGroup, Bucket}
-use Rattle.of_machine.specs.declared.data.Step.{Step}
 use Rattle.of_machine.specs.declared.data.Step.TheVariants.{Miss, Entry, Apply as DidApply, Clear as DidClear, Write as DidWrite, Metadata as DidMetadata, Goto as DidGoto, Set as DidSet, Act as DidAct, TtlExpired, End}
-use Rattle.of_machine.specs.declared.data.Outcome.{Outcome}
-use Rattle.of_machine.specs.declared.machine.Going.{Going}
-use Rattle.of_machine.specs.declared.machine.Going.TheVariants.{Continues, Ended}
-use Rattle.of_machine.specs.Gained.{Gains}
-use Rattle.of_machine.specs.Outside.{is_to_tables}
-use Rattle.of_machine.specs.TheWorld.{TheWorld}
 use Rattle.of_machine.specs.Rows.{Work, Lookup, Do, RunSet, Act, lookup_row, entry_row, miss_row, at_entry, works, key_of, Task, task, Row, row, act_row, output_row, output_to_table_row, rewritten, dec_ttl_row, group_action_row, goes_on, emits, emission, packet_in_emitted, fresh_packet, bucket_copy, copies, with_metadata, acts, set_out}
-use Rattle.of_machine.specs.Runs.{point, Moves, left_of}
-use Rattle.of_machine.proofs.Aged.{aged_same}
-use Rattle.of_machine.proofs.Reaching.{one}
+use Rattle.of_machine.specs.declared.data.Packet.{Packet}
+use Rattle.of_machine.specs.declared.data.Count.TheVariants.{Lookup as CountLookup, Matched, Group as CountGroup, Bucket}
+use Rattle.of_machine.specs.{declared.data.Step.Step, declared.data.Outcome.Outcome, declared.machine.Going.Going}
+use Rattle.of_machine.specs.{declared.machine.Going.TheVariants.Continues, declared.machine.Going.TheVariants.Ended, Gained.Gains, Outside.is_to_tables, TheWorld.TheWorld}
+use Rattle.of_machine.{specs.Runs.point, specs.Runs.Moves, specs.Runs.left_of, proofs.Aged.aged_same, proofs.Reaching.one}
 
 module _ (w : TheWorld) (keeps : Bool) (p : Packet) (rest : List Work) (others : List Task) (o : Outcome) (told told' : List Step) where
   -- a row that is known

@@ -1,24 +1,15 @@
 -- What the invariants of a world say at a place.
 use Rattle.std.proofs.Common.{◌≡◌, ◌==◌, ℕ, ◌+◌, ◌<◌, ◌≤◌, suc, zero, Bool, true, false, cond, not, List, [], ◌∷◌, ◌++◌, refl, length, get_or, arith, Some}
-use Rattle.std.specs.Prelude.{IsTrue, filter, nat_lt, nat_le}
-use Rattle.std.specs.List.{list_all, list_any}
-use Rattle.std.proofs.lemmas.Bool.Decides.{nat_tests}
+use Rattle.std.{specs.Prelude.IsTrue, specs.Prelude.filter, specs.Prelude.nat_lt, specs.Prelude.nat_le, specs.List.list_all, specs.List.list_any, proofs.lemmas.Bool.Decides.nat_tests}
 use Rattle.of_wire.specs.declared.limits.TheConstants.{OFPP_TABLE}
-use Rattle.of_layers.specs.declared.field.Field.{Field}
-use Rattle.of_layers.specs.Fields.{is_settable, ones_of}
-use Rattle.of_layers.specs.Reading.{is_tag_type}
-use Rattle.of_layers.proofs.TestLemmas.{and_true}
+use Rattle.of_layers.{specs.declared.field.Field.Field, specs.Fields.is_settable, specs.Fields.ones_of, specs.Reading.is_tag_type, proofs.TestLemmas.and_true}
 use Rattle.of_actions.specs.declared.action.Action.{Action}
 use Rattle.of_actions.specs.declared.action.Action.TheVariants.{Output, PushVlan, Group, SetField}
-use Rattle.of_actions.specs.PortNumbers.{is_port}
-use Rattle.of_actions.specs.declared.instruction.Instruction.{Instruction}
-use Rattle.of_actions.specs.InstructionLists.{are_kept, is_served_body, run_place}
-use Rattle.of_actions.specs.Rising.{is_ascending}
-use Rattle.of_actions.specs.Supported.{is_supported, are_supported}
+use Rattle.of_actions.specs.{PortNumbers.is_port, declared.instruction.Instruction.Instruction, InstructionLists.are_kept, InstructionLists.is_served_body, InstructionLists.run_place}
+use Rattle.of_actions.specs.{Rising.is_ascending, Supported.is_supported, Supported.are_supported}
 use Rattle.of_action_set.specs.Sets.{is_group, is_output, rank, with_action, with_actions, in_order}
-use Rattle.of_machine.specs.TheWorld.{TheWorld}
 use Rattle.of_machine.specs.Sound.{longest, IsSound, IsBelow, AllBelow, IsBucket, AllBuckets}
-use Rattle.of_machine.specs.Outside.{is_to_tables}
+use Rattle.of_machine.specs.{TheWorld.TheWorld, Outside.is_to_tables}
 
 -- ---- actions that some bytes encode
 

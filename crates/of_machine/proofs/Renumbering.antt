@@ -1,31 +1,21 @@
 -- Runs where the entries of the tables have other numbers.
 use Rattle.std.proofs.Common.{◌≡◌, ◌==◌, ℕ, suc, zero, Bool, true, false, List, [], ◌∷◌, ◌++◌, refl, sym, ◌∙◌, ap, length, Option, Some, None, map, cond}
-use Rattle.std.specs.Prelude.{◌||◌, unwrap_or}
-use Rattle.std.specs.Option.{option_map}
-use Rattle.std.proofs.lemmas.List.{map-append}
+use Rattle.std.{specs.Prelude.◌||◌, specs.Prelude.unwrap_or, specs.Option.option_map, proofs.lemmas.List.map-append}
 use Rattle.of_wire.specs.declared.limits.TheConstants.{OFPP_ALL, OFPP_CONTROLLER, OFPP_FLOOD, OFPP_IN_PORT, OFPP_TABLE}
 use Rattle.of_layers.specs.Reading.{layers_of}
-use Rattle.of_rewrite.specs.declared.frame.Ttl.{Ttl}
-use Rattle.of_rewrite.specs.declared.frame.Ttl.TheVariants.{Done, Expired, Absent}
+use Rattle.of_rewrite.specs.{declared.frame.Ttl.Ttl, declared.frame.Ttl.TheVariants.Done, declared.frame.Ttl.TheVariants.Expired, declared.frame.Ttl.TheVariants.Absent}
 use Rattle.of_rewrite.specs.TimeToLive.{ttl_of, dec_ttl_result}
+use Rattle.of_actions.specs.declared.instruction.Instruction.TheVariants.{Apply, Clear, Write, Metadata, Goto}
 use Rattle.of_actions.specs.declared.action.Action.{Action}
 use Rattle.of_actions.specs.declared.action.Action.TheVariants.{Output, Group as ToGroup, DecNwTtl}
-use Rattle.of_actions.specs.declared.instruction.Instruction.TheVariants.{Apply, Clear, Write, Metadata, Goto}
 use Rattle.of_action_set.specs.Sets.{with_actions, in_order}
 use Rattle.of_table.specs.declared.flow.Flow.{Flow}
-use Rattle.of_ports.specs.declared.port.Port.{Port}
-use Rattle.of_machine.specs.declared.data.Packet.{Packet}
-use Rattle.of_machine.specs.declared.data.Count.{Count}
-use Rattle.of_machine.specs.declared.data.Count.TheVariants.{Group, Bucket}
-use Rattle.of_machine.specs.declared.data.Step.{Step}
-use Rattle.of_machine.specs.declared.data.Step.TheVariants.{Act as DidAct}
-use Rattle.of_ports.specs.Ports.{may_send, port_at}
-use Rattle.of_machine.specs.TheWorld.{TheWorld}
+use Rattle.of_ports.specs.{declared.port.Port.Port, Ports.may_send, Ports.port_at}
 use Rattle.of_machine.specs.Rows.{Work, Act, Do, Lookup, RunSet, lookup_row, entry_row, act_row, output_row, output_to_table_row, dec_ttl_row, group_action_row, copies, bucket_copy, emission, to_port, emits, Emitted, key_of, Task, task, Row, row}
-use Rattle.of_machine.specs.Weights.{act_weight, acts_weight, work_weight, task_weight}
 use Rattle.of_machine.specs.Runs.{Machine, taken, step, first_step, after, starting, run_of}
-use Rattle.of_machine.proofs.Ending.{run_is_after}
-use Rattle.of_machine.specs.Renumbering.{IsRenumbered, renumbered_machine, renumbered_count, renumbered_step}
+use Rattle.of_machine.specs.{declared.data.Packet.Packet, declared.data.Count.Count, declared.data.Count.TheVariants.Group, declared.data.Count.TheVariants.Bucket, declared.data.Step.Step}
+use Rattle.of_machine.specs.{declared.data.Step.TheVariants.Act as DidAct, TheWorld.TheWorld, Weights.act_weight, Weights.acts_weight, Weights.work_weight, Weights.task_weight}
+use Rattle.of_machine.{specs.Renumbering.IsRenumbered, specs.Renumbering.renumbered_machine, specs.Renumbering.renumbered_count, specs.Renumbering.renumbered_step, proofs.Ending.run_is_after}
 
 module _ (number : ℕ → ℕ → ℕ) (w v : TheWorld) (h : IsRenumbered number w v) where
   -- the row with its numbers changed

@@ -1,13 +1,10 @@
 -- Action sets stay action sets.
 use Rattle.std.proofs.Common.{◌≤◌, Bool, true, false, cond, not, List, [], ◌∷◌, refl, length}
-use Rattle.std.specs.Prelude.{IsTrue, filter}
-use Rattle.std.specs.List.{list_all, list_any}
+use Rattle.std.specs.{Prelude.IsTrue, Prelude.filter, List.list_all, List.list_any}
 use Rattle.of_layers.proofs.TestLemmas.{and_true}
-use Rattle.of_actions.specs.declared.action.Action.{Action}
-use Rattle.of_actions.specs.Supported.{is_supported}
+use Rattle.of_actions.specs.{declared.action.Action.Action, Supported.is_supported}
 use Rattle.of_action_set.specs.Sets.{is_group, is_output, rank, with_action, with_actions, in_order}
-use Rattle.of_action_set.proofs.Ranked.{all-filter, rising-filter, rising_put, all_put}
-use Rattle.of_action_set.proofs.Kinded.{few}
+use Rattle.of_action_set.proofs.{Ranked.all-filter, Ranked.rising-filter, Ranked.rising_put, Ranked.all_put, Kinded.few}
 use Rattle.of_machine.specs.Weights.{IsSet}
 
 pub empty_set : IsSet []

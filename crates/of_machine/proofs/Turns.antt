@@ -1,16 +1,10 @@
 -- A packet before others.
 use Rattle.std.proofs.Common.{◌≡◌, ℕ, ◌+◌, suc, zero, List, [], ◌∷◌, ◌++◌, refl, sym, ap, length, arith, length-append, append_assoc}
 use Rattle.std.proofs.lemmas.List.{append-nil}
-use Rattle.of_machine.specs.declared.data.Packet.{Packet}
-use Rattle.of_machine.specs.declared.data.Item.{Item}
-use Rattle.of_machine.specs.declared.data.Count.{Count}
-use Rattle.of_machine.specs.declared.data.Step.{Step}
-use Rattle.of_machine.specs.TheWorld.{TheWorld}
-use Rattle.of_machine.specs.Sound.{IsSound}
 use Rattle.of_machine.specs.Rows.{Work, Task, task, Row, row}
-use Rattle.of_machine.specs.Weights.{IsFit, task_weight}
 use Rattle.of_machine.specs.Runs.{Machine, step, first_step, taken, after, starting, run_of, ahead_of}
-use Rattle.of_machine.proofs.Whole.{run_ends, run_unfolds}
+use Rattle.of_machine.specs.{declared.data.Packet.Packet, declared.data.Item.Item, declared.data.Count.Count, declared.data.Step.Step, TheWorld.TheWorld, Sound.IsSound}
+use Rattle.of_machine.{specs.Weights.IsFit, specs.Weights.task_weight, proofs.Whole.run_ends, proofs.Whole.run_unfolds}
 
 abbrev machine : List Task → List Item → List Count → List Step → Machine
 machine ts is cs ls = record { tasks = ts; items = is; counts = cs; lines = ls }

@@ -1,32 +1,22 @@
 -- Each step lowers the weight.
 use Rattle.std.proofs.Common.{◌≡◌, ◌==◌, ℕ, ◌+◌, ◌*◌, ◌-◌, ◌<◌, ◌≤◌, suc, zero, Bool, true, false, List, [], ◌∷◌, ◌++◌, refl, length, arith, Option, Some, None, length-append}
 use Rattle.std.specs.Prelude.{IsTrue, nat_lt, nat_le, unwrap_or, ⊤}
-use Rattle.std.specs.List.{list_all}
-use Rattle.std.proofs.Math.Nat.{mul-le-mul_left}
-use Rattle.std.proofs.lemmas.Bool.Decides.{nat_tests}
+use Rattle.std.{specs.List.list_all, proofs.Math.Nat.mul-le-mul_left, proofs.lemmas.Bool.Decides.nat_tests}
 use Rattle.of_wire.specs.declared.limits.TheConstants.{OFPP_TABLE}
-use Rattle.of_layers.specs.Reading.{layers_of}
-use Rattle.of_layers.proofs.TestLemmas.{and_true}
-use Rattle.of_rewrite.specs.declared.frame.Ttl.{Ttl}
-use Rattle.of_rewrite.specs.declared.frame.Ttl.TheVariants.{Done, Expired, Absent}
-use Rattle.of_rewrite.specs.TimeToLive.{ttl_of, dec_ttl_result}
-use Rattle.of_rewrite.specs.Frames.{frame_ttl_decremented}
-use Rattle.of_actions.specs.declared.action.Action.{Action}
-use Rattle.of_actions.specs.declared.action.Action.TheVariants.{Output, Group, DecNwTtl}
-use Rattle.of_actions.specs.declared.instruction.Instruction.{Instruction}
+use Rattle.of_layers.{specs.Reading.layers_of, proofs.TestLemmas.and_true}
+use Rattle.of_rewrite.specs.{declared.frame.Ttl.Ttl, declared.frame.Ttl.TheVariants.Done, declared.frame.Ttl.TheVariants.Expired, declared.frame.Ttl.TheVariants.Absent}
+use Rattle.of_rewrite.specs.{TimeToLive.ttl_of, TimeToLive.dec_ttl_result, Frames.frame_ttl_decremented}
 use Rattle.of_actions.specs.declared.instruction.Instruction.TheVariants.{Apply, Clear, Write, Metadata, Goto}
-use Rattle.of_actions.specs.InstructionLists.{run_place, are_for, is_for, is_served_body}
-use Rattle.of_actions.specs.Rising.{is_ascending}
-use Rattle.of_actions.specs.Supported.{is_supported}
+use Rattle.of_actions.specs.{declared.action.Action.Action, declared.action.Action.TheVariants.Output, declared.action.Action.TheVariants.Group, declared.action.Action.TheVariants.DecNwTtl}
+use Rattle.of_actions.specs.{declared.instruction.Instruction.Instruction, InstructionLists.run_place, InstructionLists.are_for, InstructionLists.is_for, InstructionLists.is_served_body}
+use Rattle.of_actions.specs.{Rising.is_ascending, Supported.is_supported}
 use Rattle.of_action_set.specs.Sets.{rank, with_actions, in_order}
 use Rattle.of_table.specs.declared.flow.Flow.{Flow}
-use Rattle.of_machine.specs.declared.data.Packet.{Packet}
-use Rattle.of_machine.specs.TheWorld.{TheWorld}
 use Rattle.of_machine.specs.Sound.{longest, IsSound, IsBelow, AllBelow, IsBucket, AllBuckets}
 use Rattle.of_machine.specs.Rows.{Work, Lookup, Do, RunSet, Act, Task, task, row, acts, works, key_of, lookup_row, entry_row, at_entry, output_row, rewritten, dec_ttl_row, group_action_row, copies, bucket_copy, with_metadata, set_out}
 use Rattle.of_machine.specs.Weights.{IsSet, AllFitWork, AllFit, copy_steps, action_steps, table_steps, set_steps, lookup_steps, frame_step_bound, output_weight, act_weight, acts_weight, work_weight, task_weight, weight}
-use Rattle.of_machine.specs.Runs.{Machine, step, first_step, after}
 use Rattle.of_machine.proofs.Promises.{out_of_tables, list_served, all_are_below, all_below_more, set_below, order_below}
+use Rattle.of_machine.specs.{declared.data.Packet.Packet, TheWorld.TheWorld, Runs.Machine, Runs.step, Runs.first_step, Runs.after}
 use Rattle.of_machine.proofs.Sets.{empty_set, written_set, run_set, set_few}
 
 -- ---- what is known of an entry's instructions

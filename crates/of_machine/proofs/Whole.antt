@@ -2,20 +2,13 @@
 use Rattle.std.proofs.Common.{◌≡◌, ℕ, ◌+◌, ◌*◌, ◌-◌, ◌≤◌, ◌==◌, suc, zero, Bool, true, false, List, [], ◌∷◌, ◌++◌, refl, sym, ◌∙◌, ap, length, length-append, arith, add_comm, ◌⊎◌, inl, inr}
 use Rattle.std.proofs.Math.Nat.{mul-le-mul_left}
 use Rattle.of_wire.specs.declared.limits.TheConstants.{OFPP_TABLE}
-use Rattle.of_actions.specs.declared.action.Action.{Action}
-use Rattle.of_actions.specs.declared.action.Action.TheVariants.{Output, Group}
-use Rattle.of_machine.specs.declared.data.Packet.{Packet}
-use Rattle.of_machine.specs.declared.data.Step.{Step}
-use Rattle.of_machine.specs.declared.data.Outcome.{Outcome}
-use Rattle.of_machine.specs.TheWorld.{TheWorld}
-use Rattle.of_machine.specs.Sound.{longest, IsSound}
+use Rattle.of_actions.specs.{declared.action.Action.Action, declared.action.Action.TheVariants.Output, declared.action.Action.TheVariants.Group}
 use Rattle.of_machine.specs.Rows.{Work, Lookup, Task, task, row, acts}
 use Rattle.of_machine.specs.Weights.{AllFitWork, IsFit, AllFit, copy_steps, action_steps, table_steps, set_steps, lookup_steps, frame_step_bound, packet_out_step_bound, output_weight, act_weight, work_weight, task_weight, weight}
 use Rattle.of_machine.specs.Runs.{Machine, step, first_step, after, starting, run_of, IsRun, IsPrefixOfRun}
-use Rattle.of_machine.proofs.Sets.{empty_set}
-use Rattle.of_machine.proofs.Reaching.{Came}
-use Rattle.of_machine.proofs.Ending.{settled, run_is_after}
 use Rattle.of_machine.proofs.Weighing.{positive, weight_more, row_lowers, bounded, copies_more, frame_steps}
+use Rattle.of_machine.specs.{declared.data.Packet.Packet, declared.data.Step.Step, declared.data.Outcome.Outcome, TheWorld.TheWorld, Sound.longest, Sound.IsSound}
+use Rattle.of_machine.proofs.{Sets.empty_set, Reaching.Came, Ending.settled, Ending.run_is_after}
 
 module _ (w : TheWorld) where
   -- a number of steps that leaves no packet is the run, where the packet's weight is no less

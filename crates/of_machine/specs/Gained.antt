@@ -1,7 +1,6 @@
 -- What an outcome gains.
 use Rattle.std.specs.Prelude.{◌≡◌, ◌++◌}
-use Rattle.of_machine.specs.declared.data.Outcome.{Outcome}
-use Rattle.of_machine.specs.Rows.{Emitted}
+use Rattle.of_machine.specs.{declared.data.Outcome.Outcome, Rows.Emitted}
 
 pub record Gains (old : Outcome) (e : Emitted) (new : Outcome) : Type 0 where
   pub items : new.items.items ≡ old.items.items ++ e.items

@@ -2,16 +2,12 @@
 use Rattle.std.specs.Prelude.{ℕ, ◌+◌, ◌*◌, ◌-◌, ◌≤◌, max, ◌==◌, if◌then◌else◌, List, [], ◌∷◌, length, ⊤}
 use Rattle.std.specs.List.{All}
 use Rattle.of_wire.specs.declared.limits.TheConstants.{OFPP_TABLE}
-use Rattle.of_actions.specs.declared.action.Action.{Action}
-use Rattle.of_actions.specs.declared.action.Action.TheVariants.{Output, PushVlan, Group}
 use Rattle.of_actions.specs.declared.instruction.Instruction.TheVariants.{Apply, Clear, Write, Metadata, Goto}
+use Rattle.of_actions.specs.{declared.action.Action.Action, declared.action.Action.TheVariants.Output, declared.action.Action.TheVariants.PushVlan, declared.action.Action.TheVariants.Group}
 use Rattle.of_rewrite.specs.Frames.{IsFrame}
 use Rattle.of_action_set.specs.Sets.{with_actions, in_order}
-use Rattle.of_machine.specs.declared.data.Item.{Item}
-use Rattle.of_machine.specs.declared.data.Item.TheVariants.{Sent, PacketIn}
-use Rattle.of_machine.specs.TheWorld.{TheWorld}
-use Rattle.of_machine.specs.Sound.{longest}
 use Rattle.of_machine.specs.Rows.{Work, Lookup, Do, RunSet, Act, Task}
+use Rattle.of_machine.specs.{declared.data.Item.Item, declared.data.Item.TheVariants.Sent, declared.data.Item.TheVariants.PacketIn, TheWorld.TheWorld, Sound.longest}
 
 -- 64 in the list of each table from t on, one in the last action set, one in the set of each group of a chain
 abbrev pub table_pushes : ℕ → ℕ

@@ -1,8 +1,7 @@
 -- Where the bytes of a packet's frame are. No public clause cites this module.
 use Rattle.std.specs.Prelude.{ℕ, ◌≤◌, ◌<◌, ◌^◌, List, length, ⊤}
 use Rattle.of_headers.specs.Known.{IsKnownOf}
-use Rattle.of_machine.specs.declared.packet_frame.Held.{Held}
-use Rattle.of_machine.specs.declared.packet_frame.Held.TheVariants.{Lent, Own}
+use Rattle.of_machine.specs.{declared.packet_frame.Held.Held, declared.packet_frame.Held.TheVariants.Lent, declared.packet_frame.Held.TheVariants.Own}
 
 abbrev pub held_bytes : Held → List ℕ
 held_bytes (Lent bytes known) = bytes.now

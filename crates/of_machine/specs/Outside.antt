@@ -1,8 +1,7 @@
 -- The actions of a PACKET_OUT.
 use Rattle.std.specs.Prelude.{Bool, false, ◌==◌}
 use Rattle.of_wire.specs.declared.limits.TheConstants.{OFPP_TABLE}
-use Rattle.of_actions.specs.declared.action.Action.{Action}
-use Rattle.of_actions.specs.declared.action.Action.TheVariants.{Output}
+use Rattle.of_actions.specs.{declared.action.Action.Action, declared.action.Action.TheVariants.Output}
 
 -- an OUTPUT to OFPP_TABLE
 abbrev pub is_to_tables : Action → Bool

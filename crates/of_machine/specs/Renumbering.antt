@@ -2,12 +2,9 @@
 use Rattle.std.specs.Prelude.{◌≡◌, ℕ, Option, Some, map}
 use Rattle.std.specs.Option.{option_map}
 use Rattle.of_layers.specs.declared.field.Field.{Field}
-use Rattle.of_machine.specs.declared.data.Count.{Count}
 use Rattle.of_machine.specs.declared.data.Count.TheVariants.{Lookup, Matched, TxDropped, Group, Bucket}
-use Rattle.of_machine.specs.declared.data.Step.{Step}
 use Rattle.of_machine.specs.declared.data.Step.TheVariants.{Miss, Entry, Apply, Clear, Write, Metadata, Goto, Set, Act, TtlExpired, End}
-use Rattle.of_machine.specs.TheWorld.{TheWorld}
-use Rattle.of_machine.specs.Runs.{Machine}
+use Rattle.of_machine.specs.{declared.data.Count.Count, declared.data.Step.Step, TheWorld.TheWorld, Runs.Machine}
 
 -- the world v is w, but the entry n of table t has there the number `number t n`
 pub record IsRenumbered (number : ℕ → ℕ → ℕ) (w v : TheWorld) : Type 0 where

@@ -1,31 +1,23 @@
 -- The rows of the machine: what each kind of work does to a packet (OpenFlow 1.3.5, 5.1, 5.6 and 5.9 to 5.12).
 use Rattle.std.specs.Prelude.{ℕ, ◌^◌, ◌-◌, ◌==◌, Bool, false, ◌&&◌, ◌||◌, List, [], ◌∷◌, ◌++◌, Option, Some, None, length, map, if◌then◌else◌, bit_and, bit_or, unwrap_or}
 use Rattle.of_wire.specs.declared.limits.TheConstants.{OFPP_ALL, OFPP_CONTROLLER, OFPP_FLOOD, OFPP_IN_PORT, OFPP_TABLE}
-use Rattle.of_layers.specs.declared.field.Field.{Field}
-use Rattle.of_layers.specs.Reading.{layers_of}
-use Rattle.of_headers.specs.FieldMap.{field_map}
-use Rattle.of_rewrite.specs.declared.frame.Ttl.{Ttl}
-use Rattle.of_rewrite.specs.declared.frame.Ttl.TheVariants.{Done, Expired, Absent}
-use Rattle.of_rewrite.specs.TimeToLive.{ttl_of, dec_ttl_result}
-use Rattle.of_rewrite.specs.Frames.{frame_set, frame_pushed, frame_popped, frame_ttl, frame_ttl_decremented}
-use Rattle.of_actions.specs.declared.action.Action.{Action}
-use Rattle.of_actions.specs.declared.action.Action.TheVariants.{Output, PushVlan, PopVlan, Group, SetNwTtl, DecNwTtl, SetField}
-use Rattle.of_actions.specs.declared.instruction.Instruction.{Instruction}
-use Rattle.of_actions.specs.declared.instruction.Instruction.TheVariants.{Apply, Clear, Write, Metadata, Goto}
-use Rattle.of_action_set.specs.Sets.{with_actions, in_order}
-use Rattle.of_table.specs.declared.flow.Flow.{Flow}
-use Rattle.of_ports.specs.declared.port.Port.{Port}
-use Rattle.of_machine.specs.declared.data.Packet.{Packet}
 use Rattle.of_wire.specs.declared.reasons.PacketInReason.{PacketInReason}
 use Rattle.of_wire.specs.declared.reasons.PacketInReason.TheVariants.{NoMatch, Action as ByAction, InvalidTtl}
-use Rattle.of_machine.specs.declared.data.Item.{Item}
-use Rattle.of_machine.specs.declared.data.Item.TheVariants.{Sent, PacketIn}
-use Rattle.of_machine.specs.declared.data.Count.{Count}
+use Rattle.of_layers.specs.{declared.field.Field.Field, Reading.layers_of}
+use Rattle.of_headers.specs.FieldMap.{field_map}
+use Rattle.of_rewrite.specs.Frames.{frame_set, frame_pushed, frame_popped, frame_ttl, frame_ttl_decremented}
+use Rattle.of_rewrite.specs.{declared.frame.Ttl.Ttl, declared.frame.Ttl.TheVariants.Done, declared.frame.Ttl.TheVariants.Expired, declared.frame.Ttl.TheVariants.Absent}
+use Rattle.of_rewrite.specs.TimeToLive.{ttl_of, dec_ttl_result}
+use Rattle.of_actions.specs.declared.action.Action.TheVariants.{Output, PushVlan, PopVlan, Group, SetNwTtl, DecNwTtl, SetField}
+use Rattle.of_actions.specs.declared.instruction.Instruction.TheVariants.{Apply, Clear, Write, Metadata, Goto}
+use Rattle.of_actions.specs.{declared.action.Action.Action, declared.instruction.Instruction.Instruction}
+use Rattle.of_action_set.specs.Sets.{with_actions, in_order}
+use Rattle.of_table.specs.declared.flow.Flow.{Flow}
+use Rattle.of_ports.specs.{declared.port.Port.Port, Ports.may_send, Ports.port_at, Ports.other_ports}
 use Rattle.of_machine.specs.declared.data.Count.TheVariants.{Lookup as CountLookup, Matched, TxDropped, Group as CountGroup, Bucket}
-use Rattle.of_machine.specs.declared.data.Step.{Step}
 use Rattle.of_machine.specs.declared.data.Step.TheVariants.{Miss, Entry, Apply as DidApply, Clear as DidClear, Write as DidWrite, Metadata as DidMetadata, Goto as DidGoto, Set as DidSet, Act as DidAct, TtlExpired, End}
-use Rattle.of_ports.specs.Ports.{may_send, port_at, other_ports}
-use Rattle.of_machine.specs.TheWorld.{TheWorld}
+use Rattle.of_machine.specs.{declared.data.Packet.Packet, declared.data.Item.Item, declared.data.Item.TheVariants.Sent, declared.data.Item.TheVariants.PacketIn, declared.data.Count.Count}
+use Rattle.of_machine.specs.{declared.data.Step.Step, TheWorld.TheWorld}
 
 -- a kind of work
 pub data Work : Type 0 where

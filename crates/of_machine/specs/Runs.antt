@@ -1,20 +1,13 @@
 -- Steps and runs of the machine (OpenFlow 1.3.5, 5.1).
 use Rattle.std.specs.Prelude.{◌≡◌, ℕ, ◌<◌, suc, zero, Bool, true, List, [], ◌∷◌, ◌++◌, ⊤}
 use Rattle.of_actions.specs.declared.instruction.Instruction.{Instruction}
-use Rattle.of_machine.specs.declared.data.Packet.{Packet}
-use Rattle.of_machine.specs.declared.data.Item.{Item}
-use Rattle.of_machine.specs.declared.data.Count.{Count}
-use Rattle.of_machine.specs.declared.data.Step.{Step}
-use Rattle.of_machine.specs.declared.data.Outcome.{Outcome}
-use Rattle.of_machine.specs.declared.machine.Going.{Going}
-use Rattle.of_machine.specs.declared.machine.Going.TheVariants.{Continues, Ended}
-use Rattle.of_machine.specs.declared.tables.Next.{Next}
+use Rattle.of_machine.specs.Rows.{Work, Lookup, RunSet, Task, task, Row, row, works}
+use Rattle.of_machine.specs.{declared.data.Packet.Packet, declared.data.Item.Item, declared.data.Count.Count, declared.data.Step.Step, declared.data.Outcome.Outcome, declared.machine.Going.Going}
+use Rattle.of_machine.specs.{declared.machine.Going.TheVariants.Continues, declared.machine.Going.TheVariants.Ended, declared.tables.Next.Next}
 use Rattle.of_machine.specs.declared.tables.Next.TheVariants.{Continues as Onward, Ended as Over, Lookup as To}
 use Rattle.of_machine.specs.declared.tables.Then.{Then}
 use Rattle.of_machine.specs.declared.tables.Then.TheVariants.{Lookup as ThenTo, Set as ThenSet, Ended as ThenOver}
-use Rattle.of_machine.specs.TheWorld.{TheWorld}
-use Rattle.of_machine.specs.Rows.{Work, Lookup, RunSet, Task, task, Row, row, works}
-use Rattle.of_machine.specs.Weights.{task_weight}
+use Rattle.of_machine.specs.{TheWorld.TheWorld, Weights.task_weight}
 
 -- the packets with their work, and the items, counts and lines so far
 pub record Machine : Type 0 where

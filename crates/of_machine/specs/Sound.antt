@@ -1,10 +1,7 @@
 -- The invariants of a world.
 use Rattle.std.specs.Prelude.{◌≡◌, ◌≢◌, ℕ, ◌<◌, ◌≤◌, List, [], ◌∷◌, Option, Some, None, length, false, IsTrue, ⊤}
 use Rattle.of_layers.specs.declared.field.Field.{Field}
-use Rattle.of_actions.specs.declared.action.Action.{Action}
-use Rattle.of_actions.specs.declared.action.Action.TheVariants.{Group}
-use Rattle.of_actions.specs.Supported.{are_supported}
-use Rattle.of_actions.specs.Rising.{is_ascending}
+use Rattle.of_actions.specs.{declared.action.Action.Action, declared.action.Action.TheVariants.Group, Supported.are_supported, Rising.is_ascending}
 use Rattle.of_actions.specs.InstructionLists.{are_kept, are_for}
 use Rattle.of_ports.specs.Ports.{number_of_port}
 use Rattle.of_table.specs.declared.flow.Flow.{Flow}

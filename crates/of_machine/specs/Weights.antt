@@ -2,15 +2,11 @@
 use Rattle.std.specs.Prelude.{ℕ, ◌+◌, ◌*◌, ◌-◌, ◌<◌, suc, zero, false, ◌==◌, if◌then◌else◌, List, [], ◌∷◌, IsTrue, ⊤}
 use Rattle.std.specs.List.{list_all}
 use Rattle.of_wire.specs.declared.limits.TheConstants.{OFPP_TABLE}
-use Rattle.of_actions.specs.declared.action.Action.{Action}
-use Rattle.of_actions.specs.declared.action.Action.TheVariants.{Output, Group}
 use Rattle.of_actions.specs.declared.instruction.Instruction.TheVariants.{Apply, Clear, Write, Metadata, Goto}
-use Rattle.of_actions.specs.Supported.{is_supported}
-use Rattle.of_actions.specs.Rising.{is_ascending}
+use Rattle.of_actions.specs.{declared.action.Action.Action, declared.action.Action.TheVariants.Output, declared.action.Action.TheVariants.Group, Supported.is_supported, Rising.is_ascending}
 use Rattle.of_action_set.specs.Sets.{rank, with_actions, in_order}
-use Rattle.of_machine.specs.TheWorld.{TheWorld}
-use Rattle.of_machine.specs.Sound.{longest}
 use Rattle.of_machine.specs.Rows.{Work, Lookup, Do, RunSet, Act, Task}
+use Rattle.of_machine.specs.{TheWorld.TheWorld, Sound.longest}
 
 -- ---- where chains of groups have at most n groups
 

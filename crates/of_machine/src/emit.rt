@@ -1,6 +1,5 @@
 //! What outputs emit.
-ghost use Rattle.std.specs.Prelude.{◌≡◌, IfOk, OnOk};
-ghost use Rattle.std.specs.Option.{option_copied};
+ghost use Rattle.std.specs.{Prelude.◌≡◌, Prelude.IfOk, Prelude.OnOk, Option.option_copied};
 ghost use Rattle.of_machine.specs.Rows.{emission, to_port, packet_in_emitted, flooded, output_reason};
 ghost use Rattle.of_machine.specs.Gained.{Gains};
 

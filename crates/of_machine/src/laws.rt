@@ -1,16 +1,11 @@
 //! Laws of runs.
 ghost use Rattle.std.specs.Prelude.{◌≡◌, ◌≤◌, ◌+◌, ◌*◌, ◌∷◌, ◌⊎◌, ℕ, List, [], true, length, IsTrue};
-ghost use Rattle.of_actions.specs.Supported.{are_supported};
-ghost use Rattle.of_machine.specs.TheWorld.{TheWorld};
-ghost use Rattle.of_machine.specs.Sound.{IsSound, longest};
-ghost use Rattle.of_machine.specs.Rows.{Work, Lookup, acts, task};
+ghost use Rattle.of_actions.specs.{Supported.are_supported, declared.action.Action.Action};
 ghost use Rattle.of_machine.specs.Weights.{IsFit, AllFit, lookup_steps, frame_step_bound, task_weight, weight};
 ghost use Rattle.of_machine.specs.Runs.{Machine, step, after, starting, run_of, ahead_of};
-ghost use Rattle.of_machine.specs.Growth.{IsLow, AllFrames, AllShort};
+ghost use Rattle.of_machine.specs.{TheWorld.TheWorld, Sound.IsSound, Sound.longest, Rows.Work, Rows.Lookup, Rows.acts, Rows.task, Growth.IsLow, Growth.AllFrames, Growth.AllShort};
+ghost use Rattle.of_machine.specs.{Renumbering.IsRenumbered, Renumbering.renumbered_machine, declared.data.Packet.Packet};
 ghost use Rattle.of_rewrite.specs.Frames.{IsFrame};
-ghost use Rattle.of_machine.specs.Renumbering.{IsRenumbered, renumbered_machine};
-ghost use Rattle.of_machine.specs.declared.data.Packet.{Packet};
-ghost use Rattle.of_actions.specs.declared.action.Action.{Action};
 
 /// Every run ends: each step makes what is left of the work lighter (`lowers`), so that no packet is left after as many steps as it weighs, and then nothing changes.
 ///

@@ -5,8 +5,7 @@ ghost use Rattle.of_actions.specs.Supported.{is_supported};
 ghost use Rattle.of_rewrite.specs.Frames.{IsFrame};
 ghost use Rattle.of_machine.specs.Rows.{Work, RunSet, Act as ActWork, acts, Task, task, copies};
 ghost use Rattle.of_machine.specs.Runs.{Moves, Acts, Ends, Breaks, AllEnd, AllFail, point};
-ghost use Rattle.of_machine.specs.Sound.{IsSound, IsBelow, AllBelow, AllBuckets};
-ghost use Rattle.of_machine.specs.TheWorld.{TheWorld};
+ghost use Rattle.of_machine.specs.{Sound.IsSound, Sound.IsBelow, Sound.AllBelow, Sound.AllBuckets, TheWorld.TheWorld};
 
 use crate::data::{Count, Outcome, Packet, Step};
 use crate::emit::{emit, to_controller};

@@ -2,10 +2,8 @@
 ghost use Rattle.std.specs.Prelude.{◌≡◌, ◌≤◌, ◌<◌, ◌^◌, length, false, IsTrue, IfOk, OnOk};
 ghost use Rattle.of_actions.specs.Supported.{is_supported};
 ghost use Rattle.of_layers.specs.Reading.{layers_of};
-ghost use Rattle.of_headers.specs.FieldMap.{value, field_map};
-ghost use Rattle.of_headers.specs.Known.{IsKnownOf};
-ghost use Rattle.of_rewrite.specs.Frames.{frame_ttl_decremented};
-ghost use Rattle.of_rewrite.specs.TimeToLive.{ttl_of, dec_ttl_result};
+ghost use Rattle.of_headers.specs.{FieldMap.value, FieldMap.field_map, Known.IsKnownOf};
+ghost use Rattle.of_rewrite.specs.{Frames.frame_ttl_decremented, TimeToLive.ttl_of, TimeToLive.dec_ttl_result};
 ghost use Rattle.of_machine.specs.Rows.{rewritten};
 
 use of_actions::Action;

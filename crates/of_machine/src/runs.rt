@@ -2,12 +2,9 @@
 ghost use Rattle.std.specs.Prelude.{◌≡◌, ◌≤◌, ◌+◌, ◌∷◌, ◌++◌, [], List, true, IsTrue, IfOk, OnOk, OnErr, length};
 ghost use Rattle.std.specs.List.{list_all};
 ghost use Rattle.of_actions.specs.Supported.{is_supported, are_supported};
-ghost use Rattle.of_machine.specs.Growth.{AllShort};
 ghost use Rattle.of_machine.specs.Rows.{Work, Act as ActWork, Lookup as LookupWork, acts, Task, task};
 ghost use Rattle.of_machine.specs.Runs.{Moves, Acts, Breaks, IsRun, IsPrefixOfRun, run_of, point};
-ghost use Rattle.of_machine.specs.Outside.{is_to_tables};
-ghost use Rattle.of_machine.specs.Sound.{IsSound};
-ghost use Rattle.of_machine.specs.Weights.{frame_step_bound, packet_out_step_bound};
+ghost use Rattle.of_machine.specs.{Growth.AllShort, Outside.is_to_tables, Sound.IsSound, Weights.frame_step_bound, Weights.packet_out_step_bound};
 
 use crate::data::{Outcome, Packet, Step};
 use crate::machine::{Going, act, frame_is_known};

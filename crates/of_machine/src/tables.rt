@@ -1,11 +1,9 @@
 //! Instructions and flow tables.
 ghost use Rattle.std.specs.Prelude.{◌≡◌, ◌∷◌, ◌++◌, [], ◌<◌, List, true, IsTrue, IfOk, OnOk, OnErr};
 ghost use Rattle.std.specs.List.{list_all};
-ghost use Rattle.of_actions.specs.declared.instruction.Instruction.{Instruction};
-ghost use Rattle.of_actions.specs.InstructionLists.{is_served_body, is_for, are_for};
-ghost use Rattle.of_machine.specs.Rows.{Lookup as LookupWork, works, is_miss as is_miss_entry};
+ghost use Rattle.of_actions.specs.{declared.instruction.Instruction.Instruction, InstructionLists.is_served_body, InstructionLists.is_for, InstructionLists.are_for};
 ghost use Rattle.of_machine.specs.Runs.{Ends, Follows, RunFails, IsUp, IsLater, next_works, then_works};
-ghost use Rattle.of_machine.specs.Sound.{IsSound};
+ghost use Rattle.of_machine.specs.{Rows.Lookup as LookupWork, Rows.works, Rows.is_miss as is_miss_entry, Sound.IsSound};
 
 use crate::data::{Count, Outcome, Packet, Step};
 use crate::machine::{Going, act_all, run_set};

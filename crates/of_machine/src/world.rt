@@ -1,9 +1,7 @@
 //! What a run reads, and where its steps go.
 ghost use Rattle.std.specs.Prelude.{◌≡◌, ◌≢◌, ◌++◌, ◌∷◌, [], List, Bool, Some, None, true, false, OnOk, OnErr};
 ghost use Rattle.of_headers.specs.FieldMap.{value};
-ghost use Rattle.of_machine.specs.TheWorld.{TheWorld};
-ghost use Rattle.of_machine.specs.Sound.{IsSound};
-ghost use Rattle.of_machine.specs.declared.data.Step.{Step};
+ghost use Rattle.of_machine.specs.{TheWorld.TheWorld, Sound.IsSound, declared.data.Step.Step};
 
 use crate::data::Step;
 use of_actions::Action;

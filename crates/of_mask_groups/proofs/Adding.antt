@@ -3,23 +3,13 @@ use Rattle.std.proofs.Common.{◌≡◌, ℕ, ◌+◌, false, List, [], ◌∷�
 use Rattle.std.specs.Prelude.{Result, Ok, Err, IfOk, OnErr, slice_index_or}
 use Rattle.slab.specs.Slab.{Slab, get, Updates}
 use Rattle.of_layers.specs.declared.field.Field.{Field}
-use Rattle.of_headers.specs.FieldMap.{value}
-use Rattle.of_headers.specs.declared.key.FieldKey.{FieldKey}
-use Rattle.of_oxm.specs.declared.masks.FieldMask.{FieldMask}
-use Rattle.of_oxm.specs.Masks.{looked_at, value_of, mask_at}
-use Rattle.of_mask_groups.specs.declared.entry.Entry.{Entry}
-use Rattle.of_mask_groups.specs.declared.group.Group.{Group}
+use Rattle.of_headers.specs.{FieldMap.value, declared.key.FieldKey.FieldKey}
+use Rattle.of_oxm.specs.{declared.masks.FieldMask.FieldMask, Masks.looked_at, Masks.value_of, Masks.mask_at}
 use Rattle.of_mask_groups.specs.Grouping.{LooksLike, AsksFor, AreGrouped, HasSameMask, HasMore}
+use Rattle.of_mask_groups.{specs.declared.entry.Entry.Entry, specs.declared.group.Group.Group, specs.Aged.numbered_row, specs.Aged.by_age, specs.Aged.AreAged, proofs.Aging.sound_row}
+use Rattle.of_mask_groups.proofs.{Numbers.unused, Changing.aged_more, Changing.rows_more, Holding.grouped_kept, Renewing.aged_wider, Renewing.rows_wider, Splitting.no_rank}
 use Rattle.of_wire.specs.Numbered.{is_used}
-use Rattle.of_classifier.specs.declared.Row.{Row}
-use Rattle.of_classifier.specs.Rows.{row_number}
-use Rattle.of_mask_groups.specs.Aged.{numbered_row, by_age, AreAged}
-use Rattle.of_mask_groups.proofs.Aging.{sound_row}
-use Rattle.of_mask_groups.proofs.Numbers.{unused}
-use Rattle.of_mask_groups.proofs.Changing.{aged_more, rows_more}
-use Rattle.of_mask_groups.proofs.Holding.{grouped_kept}
-use Rattle.of_mask_groups.proofs.Renewing.{aged_wider, rows_wider}
-use Rattle.of_mask_groups.proofs.Splitting.{no_rank}
+use Rattle.of_classifier.specs.{declared.Row.Row, Rows.row_number}
 
 -- the group of a mask, and the mask and the key of an entry
 pub looks_by : (g : Group) (mask : FieldMask) (e : Entry) → HasSameMask g mask → ((f : Field) → mask_at mask f ≡ looked_at e.fields f) → LooksLike g e

@@ -1,13 +1,10 @@
 -- The entries of a slab, oldest first: which they are, and their order.
 use Rattle.std.proofs.Common.{◌≡◌, ℕ, zero, suc, ◌+◌, ◌<◌, Bool, true, false, cond, eqb, Option, Some, None, List, [], ◌∷◌, ◌++◌, get_or, refl, sym, ◌∙◌, ap, subst, arith, ⊎_elim}
-use Rattle.std.specs.List.{Contains}
-use Rattle.std.specs.Prelude.{slice_get}
-use Rattle.std.proofs.lemmas.Bool.{eqb-true, eq-eqb, cases_lt}
+use Rattle.std.{specs.List.Contains, specs.Prelude.slice_get, proofs.lemmas.Bool.eqb-true, proofs.lemmas.Bool.eq-eqb, proofs.lemmas.Bool.cases_lt}
 use Rattle.slab.specs.Slab.{Slab, get}
 use Rattle.of_classifier.specs.declared.Row.{Row}
-use Rattle.of_mask_groups.specs.declared.entry.Entry.{Entry}
-use Rattle.of_mask_groups.specs.Aged.{numbered_row, at_age, by_age, AreAged}
 use Rattle.of_mask_groups.proofs.Members.{here, there, not_in_nil, in_cons, in_one, in_append, in_left, in_right}
+use Rattle.of_mask_groups.specs.{declared.entry.Entry.Entry, Aged.numbered_row, Aged.at_age, Aged.by_age, Aged.AreAged}
 
 -- ---- one age
 

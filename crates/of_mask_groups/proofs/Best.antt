@@ -1,16 +1,12 @@
 -- The best so far after one more.
-use Rattle.std.proofs.Common.{◌≡◌, ℕ, Bool, true, false, cond, [], Option, Some, None, refl, ap, arith, inl, inr, ◌⊎◌}
-use Rattle.std.proofs.lemmas.List.{take_more}
-use Rattle.std.proofs.lemmas.Bool.Decides.{nat_tests, eqb_tells}
-use Rattle.of_mask_groups.specs.declared.found.Found.{Found}
-use Rattle.std.specs.List.{Contains}
-use Rattle.std.proofs.Common.{List, ◌+◌, ◌<◌, length, take, get_or, sym, ◌∙◌, subst, ⊎_elim}
+use Rattle.std.proofs.Common.{◌≡◌, ℕ, Bool, true, false, cond, [], Option, Some, None, refl, ap, arith, inl, inr, ◌⊎◌, List, ◌+◌, ◌<◌, length, take, get_or, sym, ◌∙◌, subst, ⊎_elim}
+use Rattle.std.{specs.List.Contains, proofs.lemmas.List.take_more, proofs.lemmas.Bool.Decides.nat_tests, proofs.lemmas.Bool.Decides.eqb_tells}
+use Rattle.of_mask_groups.specs.Covering.{beats, covered, better_found, better_with, found_of, IsFoundMatch, IsBestOf}
+use Rattle.of_mask_groups.proofs.Members.{in_take_more, in_left, in_right, here, not_in_nil}
+use Rattle.of_mask_groups.specs.{declared.found.Found.Found, declared.entry.Entry.Entry}
 use Rattle.slab.specs.Slab.{Slab, get}
 use Rattle.of_layers.specs.declared.field.Field.{Field}
 use Rattle.of_oxm.specs.Relations.{matches_map}
-use Rattle.of_mask_groups.specs.declared.entry.Entry.{Entry}
-use Rattle.of_mask_groups.specs.Covering.{beats, covered, better_found, better_with, found_of, IsFoundMatch, IsBestOf}
-use Rattle.of_mask_groups.proofs.Members.{in_take_more, in_left, in_right, here, not_in_nil}
 
 pub beats_itself : (f : Found) → beats f f ≡ true
 beats_itself f = grind (arith, nat_tests)

@@ -1,8 +1,7 @@
 -- The lists under the digests of a map, one of which changes.
 use Rattle.std.proofs.Common.{◌≡◌, ℕ, Bool, true, false, cond, Option, Some, None, List, [], ◌∷◌, ◌++◌, subst, refl, sym, ◌∙◌, ap}
-use Rattle.std.proofs.lemmas.Bool.{eqb-true}
 use Rattle.std.specs.Prelude.{nat_eq, IsSome, Result, Ok, Err, OnOk, OnErr}
-use Rattle.std.specs.HashMap.{HashMap, get_by, UpdatesBy}
+use Rattle.std.{specs.HashMap.HashMap, specs.HashMap.get_by, specs.HashMap.UpdatesBy, proofs.lemmas.Bool.eqb-true}
 use Rattle.smallvec.specs.SmallVec.{SmallVec, HasRoomFor}
 use Rattle.of_mask_groups.specs.Cells.{small_vector_items, cell_at, AreOccupied, AreOccupiedBut, HasCell, HasRoomAt, CellLess, other_numbers}
 

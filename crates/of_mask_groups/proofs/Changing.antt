@@ -1,16 +1,12 @@
 -- The rows after an entry comes, goes, or becomes the youngest.
 use Rattle.std.proofs.Common.{◌≡◌, ◌≢◌, ℕ, ◌+◌, Bool, true, false, cond, not, eqb, List, [], ◌∷◌, ◌++◌, Option, Some, None, sym, ◌∙◌, ap, subst, arith, ⊎_elim}
-use Rattle.std.specs.List.{Contains, filter}
-use Rattle.std.proofs.lemmas.Bool.{cases_eq, eqb-true, eq-eqb, ne_eqb}
+use Rattle.std.{specs.List.Contains, specs.List.filter, proofs.lemmas.Bool.cases_eq, proofs.lemmas.Bool.eqb-true, proofs.lemmas.Bool.eq-eqb, proofs.lemmas.Bool.ne_eqb}
 use Rattle.slab.specs.Slab.{Slab, get, Updates}
 use Rattle.of_wire.specs.Numbered.{without, moved_to_end}
-use Rattle.of_classifier.specs.declared.Row.{Row}
-use Rattle.of_classifier.specs.Rows.{row_number}
-use Rattle.of_mask_groups.specs.declared.entry.Entry.{Entry}
-use Rattle.of_mask_groups.specs.Aged.{numbered_row, by_age, AreAged}
+use Rattle.of_classifier.specs.{declared.Row.Row, Rows.row_number}
 use Rattle.of_mask_groups.proofs.Members.{here, there, not_in_nil, in_one, in_append, in_left, in_right}
-use Rattle.of_mask_groups.proofs.Counting.{in_filter, of_filter}
 use Rattle.of_mask_groups.proofs.Aging.{sound_row, complete_row, in_order, AreInOrder, order-append, same_rows}
+use Rattle.of_mask_groups.{specs.declared.entry.Entry.Entry, specs.Aged.numbered_row, specs.Aged.by_age, specs.Aged.AreAged, proofs.Counting.in_filter, proofs.Counting.of_filter}
 
 pub same_entry : (o : Option Entry) (d e : Entry) → o ≡ Some d → o ≡ Some e → d ≡ e
 same_entry o d e h k = cc

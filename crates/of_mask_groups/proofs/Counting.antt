@@ -1,9 +1,7 @@
 -- How many different elements a list has.
 use Rattle.std.proofs.Common.{◌≡◌, suc, ◌+◌, Bool, true, false, cond, not, ◌||◌, List, [], ◌∷◌, length, refl, sym, ◌∙◌, ap, subst, arith, inl, inr, ◌⊎◌, ⊎_elim}
-use Rattle.std.specs.List.{Contains, list_any, filter}
-use Rattle.std.specs.Bool.{Decides}
-use Rattle.of_mask_groups.specs.Probing.{different}
-use Rattle.of_mask_groups.proofs.Members.{here, there, not_in_nil, in_cons}
+use Rattle.std.specs.{List.Contains, List.list_any, List.filter, Bool.Decides}
+use Rattle.of_mask_groups.{specs.Probing.different, proofs.Members.here, proofs.Members.there, proofs.Members.not_in_nil, proofs.Members.in_cons}
 
 -- no two are the same
 abbrev pub AreApart : {X : Type 0} → List X → Type 0

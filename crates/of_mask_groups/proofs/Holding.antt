@@ -3,12 +3,9 @@ use Rattle.std.proofs.Common.{◌≡◌, ◌≢◌, ℕ, true, List, Option, Som
 use Rattle.std.proofs.lemmas.Bool.{cases_eq}
 use Rattle.slab.specs.Slab.{Slab, get, Updates}
 use Rattle.of_headers.specs.declared.key.FieldKey.{FieldKey}
-use Rattle.of_oxm.specs.declared.match_field.MatchField.{MatchField}
-use Rattle.of_oxm.specs.NormalForm.{IsMatch}
-use Rattle.of_oxm.specs.Masks.{looked_at, value_of}
-use Rattle.of_mask_groups.specs.declared.entry.Entry.{Entry}
-use Rattle.of_mask_groups.specs.declared.group.Group.{Group}
+use Rattle.of_oxm.specs.{declared.match_field.MatchField.MatchField, NormalForm.IsMatch, Masks.looked_at, Masks.value_of}
 use Rattle.of_mask_groups.specs.Grouping.{is_ranked, LooksLike, AsksFor, IsIndex, IsGroup, IsIn, AreGrouped}
+use Rattle.of_mask_groups.specs.{declared.entry.Entry.Entry, declared.group.Group.Group}
 
 -- the number has an entry of the same priority and fields
 pub record Stays (entries : Slab Entry) (n : ℕ) (e : Entry) : Type 0 where

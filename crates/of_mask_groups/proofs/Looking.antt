@@ -1,38 +1,20 @@
 -- The bits that the masks of the probed groups look at.
 use Rattle.std.proofs.Common.{◌≡◌, ℕ, ◌+◌, ◌<◌, ◌≤◌, Bool, true, false, cond, eqb, not, ◌&&◌, ◌||◌, List, [], ◌∷◌, ◌++◌, length, get_or, take, Option, Some, None, refl, sym, ◌∙◌, ap, subst, arith, inl, inr, ◌⊎◌, ⊎_elim}
-use Rattle.std.specs.Prelude.{bit_or, nat_le, find, option_map}
-use Rattle.std.specs.List.{Contains}
-use Rattle.std.specs.Int.Bits.{or_comm}
-use Rattle.std.proofs.lemmas.Bool.{cases_lt, eq-eqb, eqb-true}
-use Rattle.std.proofs.lemmas.Bool.Decides.{nat_tests}
-use Rattle.std.proofs.lemmas.List.{take_more}
+use Rattle.std.specs.{Prelude.bit_or, Prelude.nat_le, Prelude.find, Prelude.option_map, List.Contains, Int.Bits.or_comm}
+use Rattle.std.proofs.{lemmas.Bool.cases_lt, lemmas.Bool.eq-eqb, lemmas.Bool.eqb-true, lemmas.Bool.Decides.nat_tests, lemmas.List.take_more}
 use Rattle.std.proofs.lemmas.Nat.Bits.{bit_at_or, same_from_bits}
 use Rattle.slab.specs.Slab.{Slab, get}
 use Rattle.of_layers.specs.declared.field.Field.{Field}
 use Rattle.of_headers.specs.FieldMap.{seen, either}
 use Rattle.of_wire.specs.Numbered.{is_used, is_distinct}
-use Rattle.of_oxm.specs.NormalForm.{IsMatch}
-use Rattle.of_oxm.specs.Masks.{looked_at, mask_at, Agree}
-use Rattle.of_oxm.proofs.Seen.{matched_alike}
-use Rattle.of_classifier.specs.declared.Row.{Row}
-use Rattle.of_classifier.specs.Rows.{row_number, row_priority, priority_of}
-use Rattle.of_classifier.specs.Winner.{is_matching, winner_of, Wins}
-use Rattle.of_classifier.specs.Looking.{looked_by}
-use Rattle.of_classifier.proofs.WinnerLaw.{wins_both, none_both}
-use Rattle.of_classifier.proofs.Alike.{either_none, either_assoc, seen_first}
-use Rattle.of_mask_groups.specs.declared.entry.Entry.{Entry}
-use Rattle.of_mask_groups.specs.declared.found.Found.{Found}
-use Rattle.of_mask_groups.specs.declared.group.Group.{Group}
-use Rattle.of_mask_groups.specs.Grouping.{AreGrouped}
-use Rattle.of_mask_groups.specs.Aged.{numbered_row, by_age, AreAged}
-use Rattle.of_mask_groups.specs.Probing.{reaching, reached}
+use Rattle.of_oxm.{specs.NormalForm.IsMatch, specs.Masks.looked_at, specs.Masks.mask_at, specs.Masks.Agree, proofs.Seen.matched_alike}
+use Rattle.of_classifier.specs.{declared.Row.Row, Rows.row_number, Rows.row_priority, Rows.priority_of, Winner.is_matching, Winner.winner_of, Winner.Wins, Looking.looked_by}
+use Rattle.of_classifier.proofs.{WinnerLaw.wins_both, WinnerLaw.none_both, Alike.either_none, Alike.either_assoc, Alike.seen_first}
 use Rattle.of_mask_groups.proofs.Members.{here, there, not_in_nil, in_cons, of_place}
-use Rattle.of_mask_groups.proofs.Counting.{in_filter}
-use Rattle.of_mask_groups.proofs.Sights.{same_maps}
-use Rattle.of_mask_groups.proofs.Aging.{sound_row, complete_row}
-use Rattle.of_mask_groups.proofs.Numbers.{rows_distinct}
-use Rattle.of_mask_groups.specs.Probed.{AreProbed, IsDone, groups_look}
 use Rattle.of_mask_groups.proofs.Winning.{HaveSameMasks, found_wins, none_wins, miss_masks, hit_masks}
+use Rattle.of_mask_groups.specs.{declared.entry.Entry.Entry, declared.found.Found.Found, declared.group.Group.Group, Grouping.AreGrouped, Aged.numbered_row, Aged.by_age, Aged.AreAged}
+use Rattle.of_mask_groups.{specs.Probing.reaching, specs.Probing.reached, specs.Probed.AreProbed, specs.Probed.IsDone, specs.Probed.groups_look, proofs.Counting.in_filter, proofs.Sights.same_maps}
+use Rattle.of_mask_groups.proofs.{Aging.sound_row, Aging.complete_row, Numbers.rows_distinct}
 
 -- ---- masks within masks
 

@@ -4,14 +4,9 @@ use Rattle.std.specs.List.{Contains}
 use Rattle.slab.specs.Slab.{Slab, get, Updates}
 use Rattle.of_headers.specs.declared.key.FieldKey.{FieldKey}
 use Rattle.of_oxm.specs.NormalForm.{IsMatch}
-use Rattle.of_mask_groups.specs.declared.entry.Entry.{Entry}
-use Rattle.of_mask_groups.specs.declared.group.Group.{Group}
-use Rattle.of_mask_groups.specs.Cells.{key_digest}
 use Rattle.of_mask_groups.specs.Grouping.{LooksLike, AsksFor, IsGroup, AreFalling, AreGrouped, HasMore, IsPlaceFor, IsSame}
-use Rattle.of_mask_groups.proofs.Adding.{some_more}
-use Rattle.of_mask_groups.proofs.Members.{at_place, in_cons, not_in_nil}
-use Rattle.of_mask_groups.proofs.Splitting.{put_in, split_removed, split_same}
-use Rattle.of_mask_groups.proofs.Turning.{split_more}
+use Rattle.of_mask_groups.{specs.declared.entry.Entry.Entry, specs.declared.group.Group.Group, specs.Cells.key_digest, proofs.Adding.some_more}
+use Rattle.of_mask_groups.proofs.{Members.at_place, Members.in_cons, Members.not_in_nil, Splitting.put_in, Splitting.split_removed, Splitting.split_same, Turning.split_more}
 
 -- the groups without the one at a place
 abbrev rest : List Group → ℕ → List Group

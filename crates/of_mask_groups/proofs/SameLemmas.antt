@@ -1,32 +1,19 @@
 -- The oldest entry of a match and a priority.
 use Rattle.std.proofs.Common.{◌≡◌, ℕ, ◌+◌, ◌<◌, ◌≤◌, Bool, true, false, cond, eqb, ◌&&◌, Option, Some, None, List, [], ◌∷◌, length, get_or, take, refl, sym, ◌∙◌, ap, subst, arith, inl, inr, ◌⊎◌, ⊎_elim}
-use Rattle.std.specs.Prelude.{nat_le, find}
-use Rattle.std.specs.List.{Contains}
-use Rattle.std.specs.Cmp.Lexicographic.{pointwise}
-use Rattle.std.proofs.lemmas.Bool.Decides.{nat_tests}
+use Rattle.std.{specs.Prelude.nat_le, specs.Prelude.find, specs.List.Contains, specs.Cmp.Lexicographic.pointwise, proofs.lemmas.Bool.Decides.nat_tests}
 use Rattle.slab.specs.Slab.{Slab, get}
 use Rattle.of_layers.specs.declared.field.Field.{Field}
-use Rattle.of_headers.specs.FieldMap.{value}
-use Rattle.of_headers.specs.declared.key.FieldKey.{FieldKey}
-use Rattle.of_oxm.specs.declared.masks.FieldMask.{FieldMask}
-use Rattle.of_oxm.specs.Masks.{looked_at, value_of, mask_at}
-use Rattle.of_oxm.specs.SameMatch.{is_same_match}
-use Rattle.of_oxm.specs.declared.match_field.MatchField.{MatchField}
-use Rattle.of_oxm.specs.contracts.match_field.MatchFieldPartialEq.TheImpl as the_match_field
+use Rattle.of_headers.specs.{FieldMap.value, declared.key.FieldKey.FieldKey}
+use Rattle.of_oxm.specs.{declared.masks.FieldMask.FieldMask, Masks.looked_at, Masks.value_of, Masks.mask_at, SameMatch.is_same_match, declared.match_field.MatchField.MatchField}
 use Rattle.of_oxm.proofs.Same.{same_fields, same_match}
-use Rattle.of_classifier.specs.declared.Row.{Row}
-use Rattle.of_classifier.specs.Rows.{is_same_row, same_of}
-use Rattle.of_classifier.specs.Winner.{winner_number}
-use Rattle.of_mask_groups.specs.declared.entry.Entry.{Entry}
-use Rattle.of_mask_groups.specs.declared.group.Group.{Group}
-use Rattle.of_mask_groups.specs.Aged.{numbered_row, by_age, AreAged}
-use Rattle.of_mask_groups.specs.Cells.{key_digest, cell_at}
-use Rattle.of_mask_groups.specs.Grouping.{LooksLike, AsksFor, AreGrouped, HasSameMask}
+use Rattle.of_oxm.specs.contracts.match_field.MatchFieldPartialEq.TheImpl as the_match_field
+use Rattle.of_classifier.specs.{declared.Row.Row, Rows.is_same_row, Rows.same_of, Winner.winner_number}
 use Rattle.of_mask_groups.specs.SameEntry.{is_same_entry, older_entry, older_same, IsOldestAt, IsOldestAmong, IsOldestSame}
 use Rattle.of_mask_groups.proofs.Members.{here, there, not_in_nil, in_cons, in_take_more}
-use Rattle.of_mask_groups.proofs.Best.{take_wider, take_last}
-use Rattle.of_mask_groups.proofs.Falling.{one_group}
 use Rattle.of_mask_groups.proofs.Aging.{sound_row, complete_row, in_order, IsOlder, AreInOrder}
+use Rattle.of_mask_groups.specs.{declared.entry.Entry.Entry, declared.group.Group.Group, Aged.numbered_row, Aged.by_age, Aged.AreAged, Cells.key_digest, Cells.cell_at}
+use Rattle.of_mask_groups.{specs.Grouping.LooksLike, specs.Grouping.AsksFor, specs.Grouping.AreGrouped, specs.Grouping.HasSameMask, proofs.Best.take_wider, proofs.Best.take_last}
+use Rattle.of_mask_groups.proofs.Falling.{one_group}
 
 -- ---- one more number
 

@@ -1,24 +1,13 @@
 -- The walk over the groups: the best so far, and the winner at its end.
 use Rattle.std.proofs.Common.{◌≡◌, ℕ, ◌+◌, ◌<◌, ◌≤◌, true, false, Option, Some, None, List, [], length, get_or, take, take_all, refl, sym, ◌∙◌, ap, subst, arith, ⊎_elim}
-use Rattle.std.specs.List.{Contains}
-use Rattle.std.proofs.lemmas.List.{length-take-le}
-use Rattle.std.proofs.lemmas.Bool.Decides.{nat_tests}
+use Rattle.std.{specs.List.Contains, proofs.lemmas.List.length-take-le, proofs.lemmas.Bool.Decides.nat_tests}
 use Rattle.slab.specs.Slab.{Slab, get}
 use Rattle.of_layers.specs.declared.field.Field.{Field}
-use Rattle.of_headers.specs.FieldMap.{value, seen}
-use Rattle.of_headers.specs.declared.key.FieldKey.{FieldKey}
-use Rattle.of_oxm.specs.Relations.{matches_map}
-use Rattle.of_oxm.specs.Masks.{mask_at}
-use Rattle.of_oxm.proofs.Seen.{matched_exactly}
-use Rattle.of_mask_groups.specs.declared.entry.Entry.{Entry}
-use Rattle.of_mask_groups.specs.declared.found.Found.{Found}
-use Rattle.of_mask_groups.specs.declared.group.Group.{Group}
-use Rattle.of_mask_groups.specs.Cells.{key_digest, cell_at}
-use Rattle.of_mask_groups.specs.Covering.{found_of, IsFound, IsBestOf, is_above_best}
-use Rattle.of_mask_groups.specs.Grouping.{LooksLike, AsksFor, IsInCell, AreGrouped}
-use Rattle.of_mask_groups.specs.Probed.{AreProbed}
-use Rattle.of_mask_groups.proofs.Members.{not_in_nil, in_take_more, at_place}
-use Rattle.of_mask_groups.proofs.Falling.{one_group, before_at}
+use Rattle.of_headers.specs.{FieldMap.value, FieldMap.seen, declared.key.FieldKey.FieldKey}
+use Rattle.of_oxm.{specs.Relations.matches_map, specs.Masks.mask_at, proofs.Seen.matched_exactly}
+use Rattle.of_mask_groups.specs.{declared.entry.Entry.Entry, declared.found.Found.Found, declared.group.Group.Group, Cells.key_digest, Cells.cell_at}
+use Rattle.of_mask_groups.specs.{Covering.found_of, Covering.IsFound, Covering.IsBestOf, Covering.is_above_best, Grouping.LooksLike, Grouping.AsksFor, Grouping.IsInCell, Grouping.AreGrouped}
+use Rattle.of_mask_groups.{specs.Probed.AreProbed, proofs.Members.not_in_nil, proofs.Members.in_take_more, proofs.Members.at_place, proofs.Falling.one_group, proofs.Falling.before_at}
 
 pub none_probed : (entries : Slab Entry) (key : Field → Option ℕ) → AreProbed entries key [] None 0
 none_probed entries key = record { sound = λ f e. absurd cc; covers = λ n e g h m c l. absurd (not_in_nil g c); above = λ f g e c. absurd cc; count = refl }

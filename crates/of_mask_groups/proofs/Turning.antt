@@ -1,21 +1,13 @@
 -- An entry comes into the group that is taken out, or goes from it.
 use Rattle.std.proofs.Common.{◌≡◌, ◌≢◌, ℕ, Bool, true, false, not, eqb, List, [], ◌∷◌, Option, Some, None, refl, sym, ◌∙◌, ap, subst, inl, inr, ◌⊎◌, ⊎_elim}
-use Rattle.std.specs.List.{Contains}
-use Rattle.std.proofs.lemmas.Bool.{cases_eq, eqb-true, eq-eqb, ne_eqb}
+use Rattle.std.{specs.List.Contains, proofs.lemmas.Bool.cases_eq, proofs.lemmas.Bool.eqb-true, proofs.lemmas.Bool.eq-eqb, proofs.lemmas.Bool.ne_eqb}
 use Rattle.slab.specs.Slab.{Slab, get, Updates}
 use Rattle.of_layers.specs.declared.field.Field.{Field}
-use Rattle.of_headers.specs.declared.key.FieldKey.{FieldKey}
-use Rattle.of_headers.specs.declared.mixer.Mixer.{Mixer}
-use Rattle.of_oxm.specs.NormalForm.{IsMatch}
-use Rattle.of_oxm.specs.Masks.{mask_at}
-use Rattle.of_mask_groups.specs.declared.entry.Entry.{Entry}
-use Rattle.of_mask_groups.specs.declared.group.Group.{Group}
-use Rattle.of_mask_groups.specs.Cells.{key_digest, cell_at}
+use Rattle.of_headers.{specs.declared.key.FieldKey.FieldKey, specs.declared.mixer.Mixer.Mixer, proofs.SameFields.same_key}
+use Rattle.of_oxm.specs.{NormalForm.IsMatch, Masks.mask_at, declared.masks.FieldMask.FieldMask}
 use Rattle.of_mask_groups.specs.Grouping.{is_ranked, LooksLike, AsksFor, IsIn, AreSplit, HasMore, HasLess}
-use Rattle.of_headers.proofs.SameFields.{same_key}
-use Rattle.of_oxm.specs.declared.masks.FieldMask.{FieldMask}
 use Rattle.of_mask_groups.proofs.Members.{here, in_one, in_append, in_left, in_right}
-use Rattle.of_mask_groups.proofs.Counting.{in_filter, of_filter}
+use Rattle.of_mask_groups.{specs.declared.entry.Entry.Entry, specs.declared.group.Group.Group, specs.Cells.key_digest, specs.Cells.cell_at, proofs.Counting.in_filter, proofs.Counting.of_filter}
 use Rattle.of_mask_groups.proofs.Holding.{group_kept}
 
 none_some : (o : Option Entry) (e : Entry) → o ≡ None → o ≡ Some e → ⊥

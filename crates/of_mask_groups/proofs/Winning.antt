@@ -1,30 +1,19 @@
 -- What the walk over the groups ends with: the winner, and the number of masks that had to be asked.
 use Rattle.std.proofs.Common.{◌≡◌, ℕ, ◌<◌, ◌≤◌, Bool, true, false, Option, Some, None, List, length, get_or, take, refl, sym, ◌∙◌, ap, subst, arith, inl, inr, ⊎_elim}
-use Rattle.std.specs.Prelude.{map, slice_get, nat_le}
-use Rattle.std.specs.List.{Contains}
-use Rattle.std.proofs.lemmas.List.{length-map}
-use Rattle.std.proofs.lemmas.Bool.{cases_lt}
+use Rattle.std.{specs.Prelude.map, specs.Prelude.slice_get, specs.Prelude.nat_le, specs.List.Contains, proofs.lemmas.List.length-map, proofs.lemmas.Bool.cases_lt}
 use Rattle.std.proofs.lemmas.Bool.Decides.{nat_tests, eqb_tells}
 use Rattle.slab.specs.Slab.{Slab, get}
 use Rattle.of_layers.specs.declared.field.Field.{Field}
-use Rattle.of_oxm.specs.Relations.{matches_map}
-use Rattle.of_oxm.specs.Masks.{looked_at, mask_at}
-use Rattle.of_classifier.specs.declared.Row.{Row}
-use Rattle.of_classifier.specs.Winner.{is_matching, winner_of, winner_number, Wins}
+use Rattle.of_oxm.specs.{Relations.matches_map, Masks.looked_at, Masks.mask_at}
+use Rattle.of_classifier.specs.{declared.Row.Row, Winner.is_matching, Winner.winner_of, Winner.winner_number, Winner.Wins}
 use Rattle.of_classifier.proofs.WinnerLaw.{wins_both, none_both}
-use Rattle.of_mask_groups.specs.declared.entry.Entry.{Entry}
-use Rattle.of_mask_groups.specs.declared.found.Found.{Found}
-use Rattle.of_mask_groups.specs.declared.group.Group.{Group}
 use Rattle.of_mask_groups.specs.Covering.{found_of, beats, covered, number_of_found, is_above_best}
-use Rattle.of_mask_groups.specs.Grouping.{LooksLike, AreFalling, IsIndexed, AreGrouped}
-use Rattle.of_mask_groups.specs.Aged.{numbered_row, by_age, AreAged}
 use Rattle.of_mask_groups.specs.Probing.{are_same_masks, mask_of_row, masks_in, reaching, probes_of, probes_for}
-use Rattle.of_mask_groups.proofs.Members.{in_map, of_map, place_of, of_place}
-use Rattle.of_mask_groups.proofs.Counting.{as_many, in_filter, of_filter}
-use Rattle.of_mask_groups.proofs.Sights.{same_listed, same_mask_decides}
-use Rattle.of_mask_groups.proofs.Falling.{sight, apart_sights, before_or_below}
 use Rattle.of_mask_groups.proofs.Aging.{IsRowOf, sound_row, complete_row, in_order, older_by_place}
-use Rattle.of_mask_groups.specs.Probed.{AreProbed, IsDone}
+use Rattle.of_mask_groups.specs.{declared.entry.Entry.Entry, declared.found.Found.Found, declared.group.Group.Group, Grouping.LooksLike, Grouping.AreFalling, Grouping.IsIndexed, Grouping.AreGrouped}
+use Rattle.of_mask_groups.specs.{Aged.numbered_row, Aged.by_age, Aged.AreAged, Probed.AreProbed, Probed.IsDone}
+use Rattle.of_mask_groups.proofs.{Members.in_map, Members.of_map, Members.place_of, Members.of_place, Counting.as_many, Counting.in_filter, Counting.of_filter}
+use Rattle.of_mask_groups.proofs.{Sights.same_listed, Sights.same_mask_decides, Falling.sight, Falling.apart_sights, Falling.before_or_below}
 
 same_entry : (o : Option Entry) (d e : Entry) → o ≡ Some d → o ≡ Some e → d ≡ e
 same_entry o d e h k = cc

@@ -2,9 +2,7 @@
 use Rattle.std.specs.Prelude.{◌≡◌, ℕ, false, not, nat_eq, ◌==◌, ◌++◌, Option, Some, None, List, [], ◌∷◌, filter, IsSome}
 use Rattle.std.specs.HashMap.{HashMap, get_by}
 use Rattle.smallvec.specs.SmallVec.{SmallVec, HasRoomFor}
-use Rattle.of_headers.specs.declared.key.FieldKey.{FieldKey}
-use Rattle.of_headers.specs.declared.mixer.Mixer.{Mixer}
-use Rattle.of_headers.specs.Digest.{digest_of}
+use Rattle.of_headers.specs.{declared.key.FieldKey.FieldKey, declared.mixer.Mixer.Mixer, Digest.digest_of}
 
 -- the digest of a key under a secret
 abbrev pub key_digest : Mixer → FieldKey → ℕ

@@ -3,15 +3,10 @@ use Rattle.std.specs.Prelude.{◌≡◌, ◌⊎◌, ℕ, ◌≤◌, Bool, true, 
 use Rattle.std.specs.List.{Contains}
 use Rattle.slab.specs.Slab.{Slab, get}
 use Rattle.of_layers.specs.declared.field.Field.{Field}
-use Rattle.of_headers.specs.FieldMap.{value}
-use Rattle.of_headers.specs.declared.key.FieldKey.{FieldKey}
-use Rattle.of_oxm.specs.NormalForm.{IsMatch}
-use Rattle.of_oxm.specs.declared.masks.FieldMask.{FieldMask}
-use Rattle.of_oxm.specs.Masks.{looked_at, value_of, mask_at}
-use Rattle.of_mask_groups.specs.declared.entry.Entry.{Entry}
-use Rattle.of_mask_groups.specs.declared.group.Group.{Group}
+use Rattle.of_headers.specs.{FieldMap.value, declared.key.FieldKey.FieldKey}
+use Rattle.of_oxm.specs.{NormalForm.IsMatch, declared.masks.FieldMask.FieldMask, Masks.looked_at, Masks.value_of, Masks.mask_at}
 use Rattle.of_mask_groups.specs.Cells.{key_digest, cell_at, AreOccupied, CellMore, CellLess}
-use Rattle.of_mask_groups.specs.Ranks.{has_rank, IsHighest}
+use Rattle.of_mask_groups.specs.{declared.entry.Entry.Entry, declared.group.Group.Group, Ranks.has_rank, Ranks.IsHighest}
 
 -- ---- an entry and a group
 

@@ -4,13 +4,8 @@ use Rattle.std.specs.List.{Contains}
 use Rattle.slab.specs.Slab.{Slab, get}
 use Rattle.of_layers.specs.declared.field.Field.{Field}
 use Rattle.of_headers.specs.FieldMap.{either}
-use Rattle.of_oxm.specs.Masks.{mask_at}
-use Rattle.of_oxm.specs.Relations.{matches_map}
-use Rattle.of_mask_groups.specs.declared.entry.Entry.{Entry}
-use Rattle.of_mask_groups.specs.declared.found.Found.{Found}
-use Rattle.of_mask_groups.specs.declared.group.Group.{Group}
-use Rattle.of_mask_groups.specs.Covering.{found_of, IsFoundMatch, covered}
-use Rattle.of_mask_groups.specs.Grouping.{LooksLike}
+use Rattle.of_oxm.specs.{Masks.mask_at, Relations.matches_map}
+use Rattle.of_mask_groups.specs.{declared.entry.Entry.Entry, declared.found.Found.Found, declared.group.Group.Group, Covering.found_of, Covering.IsFoundMatch, Covering.covered, Grouping.LooksLike}
 
 -- So many groups are probed: the best of their entries that match is known, and none of them could be left out.
 pub record AreProbed (entries : Slab Entry) (key : Field → Option ℕ) (groups : List Group) (best : Option Found) (probes : ℕ) : Type 0 where

@@ -1,8 +1,6 @@
 //! The entries of one mask.
 ghost use Rattle.std.specs.Prelude.{◌≡◌, ℕ, ◌+◌, ◌<◌, ◌^◌, IsTrue, ◌↔◌, [], OnOk, OnErr};
-ghost use Rattle.of_mask_groups.specs.Cells.{cell_at, key_digest, AreOccupied};
-ghost use Rattle.of_mask_groups.specs.Grouping.{HasMore, HasLess, IsSame};
-ghost use Rattle.of_mask_groups.specs.Ranks.{IsHighest};
+ghost use Rattle.of_mask_groups.specs.{Cells.cell_at, Cells.key_digest, Cells.AreOccupied, Grouping.HasMore, Grouping.HasLess, Grouping.IsSame, Ranks.IsHighest};
 
 use crate::cells::{Cells, drop_number, drop_vacant, make_room, push_number};
 use crate::rank::Rank;

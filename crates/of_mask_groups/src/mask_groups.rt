@@ -1,17 +1,12 @@
 //! The classifier by groups of masks.
 ghost use Rattle.std.specs.Prelude.{◌≡◌, ℕ, ◌<◌, ◌≤◌, IsTrue, Some, None, IfOk, OnErr, length, slice_index_or, vec_len, vec_capacity};
 ghost use Rattle.of_layers.specs.declared.field.Field.{Field};
-ghost use Rattle.of_oxm.specs.Masks.{looked_at, mask_at};
-ghost use Rattle.of_oxm.specs.NormalForm.{IsMatch};
-ghost use Rattle.of_mask_groups.specs.declared.group.Group.{Group as AGroup};
+ghost use Rattle.of_oxm.specs.{Masks.looked_at, Masks.mask_at, NormalForm.IsMatch};
+ghost use Rattle.of_mask_groups.specs.{declared.group.Group.Group as AGroup, Covering.number_of_found, Aged.by_age, Aged.AreAged, Grouping.AreGrouped, Grouping.LooksLike};
+ghost use Rattle.of_mask_groups.specs.Probing.{probes_of, reached};
 ghost use Rattle.slab.specs.Slab.{get, Updates, HasRoomFor};
 ghost use Rattle.of_headers.specs.FieldMap.{value};
-ghost use Rattle.of_classifier.specs.Winner.{winner_of, winner_number as number_of_row};
-ghost use Rattle.of_mask_groups.specs.Covering.{number_of_found};
-ghost use Rattle.of_mask_groups.specs.Aged.{by_age, AreAged};
-ghost use Rattle.of_mask_groups.specs.Grouping.{AreGrouped, LooksLike};
-ghost use Rattle.of_classifier.specs.Looking.{looked_by};
-ghost use Rattle.of_mask_groups.specs.Probing.{probes_of, reached};
+ghost use Rattle.of_classifier.specs.{Winner.winner_of, Winner.winner_number as number_of_row, Looking.looked_by};
 
 use crate::entry::Entry;
 use crate::found::Found;
@@ -43,8 +38,7 @@ pub struct MaskGroups {
 impl Model for MaskGroups {
     ghost use Rattle.std.specs.Prelude.{List, ◌+◌, ◌≤◌, vec_len, vec_capacity};
     ghost use Rattle.of_classifier.specs.declared.Row.{Row};
-    ghost use Rattle.of_mask_groups.specs.Aged.{by_age, AreAged};
-    ghost use Rattle.of_mask_groups.specs.Grouping.{AreGrouped};
+    ghost use Rattle.of_mask_groups.specs.{Aged.by_age, Aged.AreAged, Grouping.AreGrouped};
 
     ghost Value = { List Row };
 

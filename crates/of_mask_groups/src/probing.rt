@@ -4,9 +4,7 @@ ghost use Rattle.slab.specs.Slab.{get};
 ghost use Rattle.of_layers.specs.declared.field.Field.{Field};
 ghost use Rattle.of_headers.specs.FieldMap.{value};
 ghost use Rattle.of_oxm.specs.Masks.{mask_at};
-ghost use Rattle.of_mask_groups.specs.Covering.{is_above_best};
-ghost use Rattle.of_mask_groups.specs.Grouping.{AreGrouped};
-ghost use Rattle.of_mask_groups.specs.Probed.{AreProbed, IsDone, groups_look};
+ghost use Rattle.of_mask_groups.specs.{Covering.is_above_best, Grouping.AreGrouped, Probed.AreProbed, Probed.IsDone, Probed.groups_look};
 
 use crate::entry::Entry;
 use crate::found::{Found, best_among};

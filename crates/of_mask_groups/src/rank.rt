@@ -1,8 +1,6 @@
 //! An entry among those of its mask.
-ghost use Rattle.std.proofs.Common.{rules};
-ghost use Rattle.std.specs.Cmp.{partial_order_from_own_ties};
-ghost use Rattle.std.specs.Cmp.Rules.{comparing};
 ghost use Rattle.std.specs.Ordering.{as_partial_cmp, flip_args, nat_cmp, on, then_cmp};
+ghost use Rattle.std.{specs.Cmp.partial_order_from_own_ties, specs.Cmp.Rules.comparing, proofs.Common.rules};
 
 use std::cmp::Ordering;
 

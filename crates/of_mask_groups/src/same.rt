@@ -1,11 +1,8 @@
 //! The oldest entry of a match and a priority.
 ghost use Rattle.std.specs.Prelude.{◌≡◌, ℕ};
 ghost use Rattle.slab.specs.Slab.{get};
-ghost use Rattle.of_classifier.specs.Rows.{same_of};
-ghost use Rattle.of_classifier.specs.Winner.{winner_number};
-ghost use Rattle.of_mask_groups.specs.Aged.{by_age, AreAged};
-ghost use Rattle.of_mask_groups.specs.Grouping.{AreGrouped};
-ghost use Rattle.of_mask_groups.specs.SameEntry.{IsOldestSame, older_same};
+ghost use Rattle.of_classifier.specs.{Rows.same_of, Winner.winner_number};
+ghost use Rattle.of_mask_groups.specs.{Aged.by_age, Aged.AreAged, Grouping.AreGrouped, SameEntry.IsOldestSame, SameEntry.older_same};
 
 use crate::entry::Entry;
 use crate::group::Group;

@@ -1,11 +1,8 @@
 -- Bytes that are written one part after the other.
 use Rattle.std.proofs.Common.{◌≡◌, ℕ, List, [], ◌++◌, ◌∷◌, ◌+◌, length, refl, ◌∙◌, append_assoc, arith}
-use Rattle.std.proofs.lemmas.List.{length-append}
-use Rattle.std.specs.Prelude.{Result, Ok, Err, OnOk}
-use Rattle.of_messages.specs.declared.message.FlowRemoved.{FlowRemoved}
-use Rattle.of_messages.specs.declared.message.PacketIn.{PacketIn}
-use Rattle.of_messages.specs.declared.message.FlowMod.{FlowMod}
+use Rattle.std.{specs.Prelude.Result, specs.Prelude.Ok, specs.Prelude.Err, specs.Prelude.OnOk, proofs.lemmas.List.length-append}
 use Rattle.of_messages.specs.Written.{flow_removed_fixed_part, packet_in_fixed_part, flow_mod_fixed_part, message_header, message}
+use Rattle.of_messages.specs.{declared.message.FlowRemoved.FlowRemoved, declared.message.PacketIn.PacketIn, declared.message.FlowMod.FlowMod}
 
 pub length_front : (removed : FlowRemoved) → length (flow_removed_fixed_part removed) ≡ 40
 unfolding flow_removed_fixed_part

@@ -1,14 +1,9 @@
 -- Walks over buckets.
 use Rattle.std.proofs.Common.{◌≡◌, ◌<◌, ℕ, false, ltb, List, [], length, Some, None, Ok, Err, arith}
 use Rattle.std.proofs.lemmas.Bool.{ltb-false}
-use Rattle.of_wire.specs.declared.code.ReadError.{ReadError}
+use Rattle.of_wire.specs.{declared.code.ReadError.ReadError, Failures.Fails, Refusals.first_of, Items.Items, Items.TakesBytes, Items.items_from}
+use Rattle.of_wire.proofs.{FirstLemmas.none_applies, FirstLemmas.first_false, ItemsRead.items_are, Walking.Going, Walking.stops, Walking.is_done}
 use Rattle.of_wire.specs.declared.code.ReadError.TheVariants as errors
-use Rattle.of_wire.specs.Failures.{Fails}
-use Rattle.of_wire.specs.Refusals.{first_of}
-use Rattle.of_wire.specs.Items.{Items, TakesBytes, items_from}
-use Rattle.of_wire.proofs.FirstLemmas.{none_applies, first_false}
-use Rattle.of_wire.proofs.ItemsRead.{items_are}
-use Rattle.of_wire.proofs.Walking.{Going, stops, is_done}
 use Rattle.of_messages.specs.Buckets.{buckets, bucket_refusals, bucket_len_at}
 
 pub buckets_take : TakesBytes buckets

@@ -1,28 +1,15 @@
 -- Buckets that are written are read again.
 use Rattle.std.proofs.Common.{◌≡◌, ℕ, ◌+◌, ◌-◌, ◌%◌, ◌^◌, ◌<◌, ◌≤◌, true, false, ltb, eqb, List, [], ◌∷◌, ◌++◌, length, take, drop, Some, None, Result, Ok, refl, sym, ap, subst, ◌∙◌, arith}
-use Rattle.std.specs.Prelude.{map}
-use Rattle.std.specs.List.{list_all}
-use Rattle.std.proofs.lemmas.Bool.{le-ltb, eq-eqb}
-use Rattle.std.proofs.lemmas.Bool.Decides.{nat_tests}
+use Rattle.std.{specs.Prelude.map, specs.List.list_all, proofs.lemmas.Bool.le-ltb, proofs.lemmas.Bool.eq-eqb, proofs.lemmas.Bool.Decides.nat_tests}
 use Rattle.std.proofs.lemmas.List.{length-append, take-append-le, take_all}
-use Rattle.byteorder.specs.Endian.{big_number}
-use Rattle.byteorder.specs.Numbers.{big_number-reads_back}
-use Rattle.of_wire.specs.declared.code.Code.{Code}
-use Rattle.of_wire.specs.Items.{AreItems}
-use Rattle.of_wire.specs.Refusals.{first_of}
-use Rattle.of_wire.proofs.ItemsAgain.{Again, AllAgain, written_items}
+use Rattle.byteorder.specs.{Endian.big_number, Numbers.big_number-reads_back}
+use Rattle.of_wire.{specs.declared.code.Code.Code, specs.Items.AreItems, specs.Refusals.first_of, proofs.ItemsAgain.Again, proofs.ItemsAgain.AllAgain, proofs.ItemsAgain.written_items}
 use Rattle.of_wire.proofs.ItemsRead.{items_are}
-use Rattle.of_actions.specs.declared.action.Action.{Action}
-use Rattle.of_actions.specs.Actions.{actions_said}
-use Rattle.of_actions.specs.CanonicalActions.{canonical_actions}
-use Rattle.of_actions.specs.Supported.{are_supported}
-use Rattle.of_actions.proofs.ActionsAgain.{canonical_encoded, canonical_short}
-use Rattle.of_actions.proofs.ActionsComputed.{actions_are}
-use Rattle.of_groups.specs.declared.bucket.Bucket.{Bucket}
-use Rattle.of_groups.specs.Buckets.{fresh, is_fit, are_fit}
+use Rattle.of_actions.specs.{declared.action.Action.Action, Actions.actions_said, CanonicalActions.canonical_actions, Supported.are_supported}
+use Rattle.of_actions.proofs.{ActionsAgain.canonical_encoded, ActionsAgain.canonical_short, ActionsComputed.actions_are}
+use Rattle.of_groups.specs.{declared.bucket.Bucket.Bucket, Buckets.fresh, Buckets.is_fit, Buckets.are_fit}
 use Rattle.of_messages.specs.Buckets.{buckets, buckets_said, bucket_of_bytes, bucket_refusals, actions_in, actions_fault, bucket_len_at}
-use Rattle.of_messages.specs.CanonicalGroups.{canonical_bucket, canonical_buckets, has_numbers}
-use Rattle.of_messages.proofs.BucketLemmas.{buckets_take}
+use Rattle.of_messages.{specs.CanonicalGroups.canonical_bucket, specs.CanonicalGroups.canonical_buckets, specs.CanonicalGroups.has_numbers, proofs.BucketLemmas.buckets_take}
 use Rattle.of_messages.proofs.BucketsWritten.{length_bucket}
 
 -- what bytes say that begin with the bucket, over a variable, where nothing has computed to bytes yet

@@ -1,19 +1,11 @@
 -- Buckets as bytes.
 use Rattle.std.proofs.Common.{◌≡◌, ◌≤◌, ℕ, ◌+◌, ◌*◌, true, false, List, [], ◌++◌, ◌∷◌, length, refl, ◌∙◌, append_assoc, arith}
-use Rattle.std.specs.Prelude.{Result, OnOk, replicate}
-use Rattle.std.specs.List.{list_all}
+use Rattle.std.{specs.Prelude.Result, specs.Prelude.OnOk, specs.Prelude.replicate, specs.List.list_all, proofs.lemmas.List.length-append, proofs.lemmas.Bool.Decides.nat_tests}
 use Rattle.byteorder.specs.Endian.{big_bytes}
-use Rattle.std.proofs.lemmas.List.{length-append}
-use Rattle.std.proofs.lemmas.Bool.Decides.{nat_tests}
-use Rattle.of_actions.specs.Supported.{are_supported}
-use Rattle.of_actions.specs.CanonicalActions.{canonical_actions}
-use Rattle.of_actions.proofs.ActionsAgain.{canonical_short}
-use Rattle.of_groups.specs.declared.bucket.Bucket.{Bucket}
-use Rattle.of_groups.specs.Buckets.{is_fit, are_fit}
-use Rattle.of_messages.specs.declared.group_mod.NewGroup.{NewGroup}
-use Rattle.of_messages.specs.Written.{message_header, message}
-use Rattle.of_messages.proofs.Appended.{six_or}
-use Rattle.of_messages.specs.CanonicalGroups.{canonical_bucket, canonical_buckets, group_add_fixed_part}
+use Rattle.of_actions.{specs.Supported.are_supported, specs.CanonicalActions.canonical_actions, proofs.ActionsAgain.canonical_short}
+use Rattle.of_groups.specs.{declared.bucket.Bucket.Bucket, Buckets.is_fit, Buckets.are_fit}
+use Rattle.of_messages.specs.{declared.group_mod.NewGroup.NewGroup, Written.message_header, Written.message}
+use Rattle.of_messages.{specs.CanonicalGroups.canonical_bucket, specs.CanonicalGroups.canonical_buckets, specs.CanonicalGroups.group_add_fixed_part, proofs.Appended.six_or}
 
 pub length_bucket : (b : Bucket) → length (canonical_bucket b) ≡ 16 + length (canonical_actions b.actions)
 unfolding canonical_bucket

@@ -1,25 +1,17 @@
 -- A GROUP_MOD that is written is read again.
 use Rattle.std.proofs.Common.{◌≡◌, ℕ, ◌+◌, ◌^◌, ◌<◌, ◌≤◌, true, false, ltb, eqb, List, ◌++◌, length, drop, Some, None, Ok, refl, ◌∙◌, arith}
-use Rattle.std.specs.Prelude.{slice_index}
-use Rattle.std.specs.List.{list_all}
-use Rattle.std.proofs.lemmas.Bool.{le-ltb, eq-eqb}
-use Rattle.byteorder.specs.Endian.{big_number}
-use Rattle.byteorder.specs.Numbers.{big_number-reads_back}
+use Rattle.std.{specs.Prelude.slice_index, specs.List.list_all, proofs.lemmas.Bool.le-ltb, proofs.lemmas.Bool.eq-eqb}
+use Rattle.byteorder.specs.{Endian.big_number, Numbers.big_number-reads_back}
 use Rattle.of_wire.specs.Refusals.{first_of}
 use Rattle.of_groups.specs.declared.group.GroupKind.{GroupKind}
-use Rattle.of_groups.specs.declared.group.GroupKind.TheVariants.{All, Indirect, FastFailover}
-use Rattle.of_groups.specs.Buckets.{are_fit}
-use Rattle.of_messages.specs.declared.message.Message.TheVariants.{GroupMod as IsGroupMod}
-use Rattle.of_messages.specs.declared.group_mod.GroupMod.TheVariants.{Add}
-use Rattle.of_messages.specs.declared.group_mod.NewGroup.{NewGroup}
-use Rattle.of_messages.specs.GroupMods.{command_of_group_mod, group_mod_of, group_of, group_kind_of}
-use Rattle.of_messages.specs.Heads.{version_of, type_of, header_length, head_refusals}
-use Rattle.of_formats.specs.Messages.{message_row}
-use Rattle.of_messages.specs.Messages.{message_body, message_from, message_of}
+use Rattle.of_groups.specs.{declared.group.GroupKind.TheVariants.All, declared.group.GroupKind.TheVariants.Indirect, declared.group.GroupKind.TheVariants.FastFailover, Buckets.are_fit}
 use Rattle.of_groups.specs.Groups.{kind_number}
 use Rattle.of_messages.specs.CanonicalGroups.{canonical_buckets, group_add_fixed_part, group_add_bytes, as_written, has_numbers}
-use Rattle.of_messages.proofs.BucketsWritten.{buckets_short}
-use Rattle.of_messages.proofs.BucketsAgain.{buckets_again}
+use Rattle.of_messages.specs.{declared.message.Message.TheVariants.GroupMod as IsGroupMod, declared.group_mod.GroupMod.TheVariants.Add, declared.group_mod.NewGroup.NewGroup}
+use Rattle.of_messages.specs.GroupMods.{command_of_group_mod, group_mod_of, group_of, group_kind_of}
+use Rattle.of_messages.specs.{Heads.version_of, Heads.type_of, Heads.header_length, Heads.head_refusals, Messages.message_body, Messages.message_from, Messages.message_of}
+use Rattle.of_messages.proofs.{BucketsWritten.buckets_short, BucketsAgain.buckets_again}
+use Rattle.of_formats.specs.Messages.{message_row}
 
 -- what a message says, over a variable, where nothing has computed to bytes yet
 record Says (g : NewGroup) (m : List ℕ) : Type 0 where

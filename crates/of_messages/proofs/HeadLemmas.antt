@@ -1,9 +1,7 @@
 -- What the table of sizes says of a type.
 use Rattle.std.proofs.Common.{◌≡◌, ◌≤◌, ℕ, false, Some, arith}
 use Rattle.std.proofs.lemmas.Bool.Decides.{nat_tests}
-use Rattle.of_formats.specs.declared.messages.Size.{Size}
-use Rattle.of_formats.specs.declared.messages.Size.TheVariants.{Least}
-use Rattle.of_formats.specs.Messages.{is_bad_size, message_row}
+use Rattle.of_formats.specs.{declared.messages.Size.Size, declared.messages.Size.TheVariants.Least, Messages.is_bad_size, Messages.message_row}
 use Rattle.of_messages.specs.Heads.{size_by_type}
 
 -- a PACKET_OUT has its fixed part

@@ -1,8 +1,6 @@
 -- The elements of a HELLO.
 use Rattle.std.proofs.Common.{◌≡◌, ◌≤◌, ◌<◌, ◌+◌, ◌*◌, ◌/◌, ℕ, zero, suc, Bool, true, false, cond, List, [], ◌∷◌, length, take, Some, None, refl, sym, ap, ◌∙◌, arith}
-use Rattle.std.specs.Prelude.{find}
-use Rattle.std.proofs.lemmas.Bool.Decides.{nat_tests}
-use Rattle.std.proofs.lemmas.List.{length-drop}
+use Rattle.std.{specs.Prelude.find, proofs.lemmas.Bool.Decides.nat_tests, proofs.lemmas.List.length-drop}
 use Rattle.of_messages.specs.Hellos.{AreElements, behind_element, element_length, elements_among, elements_of, is_bitmap, no_element}
 
 -- an element has some bytes

@@ -1,14 +1,10 @@
 -- Messages that say their length.
 use Rattle.std.proofs.Common.{◌≡◌, ℕ, ◌+◌, ◌<◌, ◌≤◌, length, List, [], ◌++◌, refl, sym, ◌∙◌, arith, length-append}
-use Rattle.byteorder.specs.Endian.{big_bytes}
-use Rattle.byteorder.specs.Numbers.{big_number-reads_back}
+use Rattle.byteorder.specs.{Endian.big_bytes, Numbers.big_number-reads_back}
 use Rattle.of_wire.specs.declared.code.Code.{Code}
-use Rattle.of_oxm.specs.Canonical.{canonical}
-use Rattle.of_oxm.specs.declared.match_field.MatchField.{MatchField}
-use Rattle.of_messages.specs.declared.message.FlowRemoved.{FlowRemoved}
-use Rattle.of_messages.specs.declared.message.PacketIn.{PacketIn}
+use Rattle.of_oxm.specs.{Canonical.canonical, declared.match_field.MatchField.MatchField}
 use Rattle.of_messages.specs.Written.{message_header, message, IsMessage, hello_bytes, error_bytes, echo_reply_bytes, barrier_reply_bytes, features_body, features_reply_bytes, flow_removed_fixed_part, flow_removed_bytes, packet_fields, packet_in_bytes}
-use Rattle.of_messages.proofs.Appended.{length_front, length_body}
+use Rattle.of_messages.{specs.declared.message.FlowRemoved.FlowRemoved, specs.declared.message.PacketIn.PacketIn, proofs.Appended.length_front, proofs.Appended.length_body}
 
 total : (kind xid : ℕ) (body : List ℕ) → length (message kind xid body) ≡ 8 + length body
 total kind xid body = omega arith

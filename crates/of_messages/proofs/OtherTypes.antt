@@ -2,8 +2,7 @@
 use Rattle.std.proofs.Common.{◌≡◌, ℕ, eqb, false, List, [], ◌∷◌}
 use Rattle.std.specs.Prelude.{Err}
 use Rattle.of_wire.specs.Refusals.{refusal}
-use Rattle.of_messages.specs.Heads.{type_of}
-use Rattle.of_messages.specs.Messages.{message_body}
+use Rattle.of_messages.specs.{Heads.type_of, Messages.message_body}
 
 abbrev pub IsNone : ℕ → List ℕ → Type 0
 IsNone n [] = Unit {0}

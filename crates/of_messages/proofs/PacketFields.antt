@@ -3,8 +3,7 @@ use Rattle.std.proofs.Common.{◌≡◌, ℕ, true, false, eqb, [], ◌∷◌, �
 use Rattle.std.proofs.lemmas.Bool.Decides.{nat_tests, eqb_tells}
 use Rattle.byteorder.specs.Endian.{big_bytes}
 use Rattle.of_layers.specs.Fields.{row_of}
-use Rattle.of_oxm.specs.MatchFieldWire.{encoding}
-use Rattle.of_oxm.specs.Canonical.{canonical}
+use Rattle.of_oxm.specs.{MatchFieldWire.encoding, Canonical.canonical}
 use Rattle.of_messages.specs.Written.{packet_fields}
 
 pub without_metadata : (port metadata : ℕ) → eqb metadata 0 ≡ true → canonical (packet_fields port metadata) ≡ (0 ∷ 1 ∷ 0 ∷ 12 ∷ 0x80 ∷ 0 ∷ 0 ∷ 4 ∷ []) ++ (big_bytes 4 port ++ (0 ∷ 0 ∷ 0 ∷ 0 ∷ []))

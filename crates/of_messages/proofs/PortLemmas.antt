@@ -1,11 +1,8 @@
 -- PORT_STATUS, part by part.
 use Rattle.std.proofs.Common.{◌≡◌, ℕ, List, [], ◌++◌, ◌∷◌, ◌+◌, length, ◌∙◌, append_assoc, refl, arith}
-use Rattle.std.specs.Prelude.{replicate}
-use Rattle.std.proofs.lemmas.List.{length-append}
-use Rattle.of_messages.specs.declared.port_mod.PortDescription.{PortDescription}
-use Rattle.of_messages.specs.declared.port_mod.PortStatusReason.{PortStatusReason}
+use Rattle.std.{specs.Prelude.replicate, proofs.lemmas.List.length-append}
 use Rattle.of_messages.specs.Written.{message_header, port_names, port_bits, port_bytes, port_status_bytes, status_number, IsMessage}
-use Rattle.of_messages.proofs.Lengths.{is_message}
+use Rattle.of_messages.{specs.declared.port_mod.PortDescription.PortDescription, specs.declared.port_mod.PortStatusReason.PortStatusReason, proofs.Lengths.is_message}
 
 pub length_bits : (p : PortDescription) → length (port_bits p) ≡ 32
 unfolding port_bits

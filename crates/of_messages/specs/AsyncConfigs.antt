@@ -1,7 +1,6 @@
 -- Which messages of the switch a controller is sent (OpenFlow 1.3.5, 7.3.10): for each kind a mask of reasons while it is master or equal, and one while it is a slave.
 use Rattle.std.specs.Prelude.{ℕ, List, [], ◌∷◌}
-use Rattle.of_messages.specs.declared.async_masks.RoleMasks.{RoleMasks}
-use Rattle.of_messages.specs.declared.async_masks.AsyncMasks.{AsyncMasks}
+use Rattle.of_messages.specs.{declared.async_masks.RoleMasks.RoleMasks, declared.async_masks.AsyncMasks.AsyncMasks}
 use Rattle.of_formats.specs.Structs.{numbers}
 use Rattle.of_formats.specs.Tables as tables
 

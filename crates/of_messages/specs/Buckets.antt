@@ -1,11 +1,8 @@
 -- Buckets of a group on the wire (OpenFlow 1.3.5, 7.3.4.2): their length, weight, watched port and watched group, four bytes of padding, and actions.
 use Rattle.std.specs.Prelude.{ℕ, ◌-◌, ◌%◌, ◌==◌, nat_lt, Bool, true, false, not, ◌||◌, List, [], ◌∷◌, length, take, drop, Option, Some, None, Result, Ok, Err}
 use Rattle.byteorder.specs.Endian.{big_number}
-use Rattle.of_wire.specs.declared.codes.TheConstants.{OFPGMFC_BAD_BUCKET, OFPGMFC_OUT_OF_BUCKETS}
-use Rattle.of_wire.specs.declared.code.Code.{Code}
-use Rattle.of_wire.specs.Items.{Items, items_from}
-use Rattle.of_actions.specs.declared.action.Action.{Action}
-use Rattle.of_actions.specs.Actions.{actions_said}
+use Rattle.of_wire.specs.{declared.codes.TheConstants.OFPGMFC_BAD_BUCKET, declared.codes.TheConstants.OFPGMFC_OUT_OF_BUCKETS, declared.code.Code.Code, Items.Items, Items.items_from}
+use Rattle.of_actions.specs.{declared.action.Action.Action, Actions.actions_said}
 use Rattle.of_groups.specs.declared.bucket.Bucket.{Bucket}
 use Rattle.of_formats.specs.Structs.{numbers, size}
 use Rattle.of_formats.specs.Tables as tables

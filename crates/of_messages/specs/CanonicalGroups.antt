@@ -2,14 +2,10 @@
 use Rattle.std.specs.Prelude.{ℕ, ◌+◌, ◌^◌, nat_lt, Bool, ◌&&◌, List, [], ◌∷◌, ◌++◌, length, map}
 use Rattle.std.specs.List.{flat_map}
 use Rattle.of_actions.specs.CanonicalActions.{canonical_actions}
-use Rattle.of_groups.specs.declared.bucket.Bucket.{Bucket}
-use Rattle.of_groups.specs.Buckets.{fresh}
-use Rattle.of_groups.specs.Groups.{kind_number}
-use Rattle.of_messages.specs.declared.group_mod.NewGroup.{NewGroup}
-use Rattle.of_formats.specs.declared.messages.TheConstants.{GROUP_MOD}
-use Rattle.of_formats.specs.Structs.{written}
+use Rattle.of_groups.specs.{declared.bucket.Bucket.Bucket, Buckets.fresh, Groups.kind_number}
+use Rattle.of_messages.specs.{declared.group_mod.NewGroup.NewGroup, Written.message}
+use Rattle.of_formats.specs.{declared.messages.TheConstants.GROUP_MOD, Structs.written}
 use Rattle.of_formats.specs.Tables as tables
-use Rattle.of_messages.specs.Written.{message}
 
 -- its fields, and its actions
 unfoldable pub canonical_bucket : Bucket → List ℕ

@@ -1,9 +1,7 @@
 -- The configuration of a switch (OpenFlow 1.3.5, 7.3.2), and TABLE_MOD (7.3.3).
 use Rattle.std.specs.Prelude.{ℕ, ◌==◌, nat_lt, Bool, ◌||◌, List, [], ◌∷◌, Result, Ok, Err, if◌then◌else◌}
-use Rattle.of_wire.specs.declared.codes.TheConstants.{OFPBRC_BAD_LEN, OFPSCFC_BAD_FLAGS, OFPTMFC_BAD_TABLE}
-use Rattle.of_wire.specs.declared.code.Code.{Code}
-use Rattle.of_messages.specs.declared.config.SwitchConfig.{SwitchConfig}
-use Rattle.of_messages.specs.declared.config.TableMod.{TableMod}
+use Rattle.of_wire.specs.{declared.codes.TheConstants.OFPBRC_BAD_LEN, declared.codes.TheConstants.OFPSCFC_BAD_FLAGS, declared.codes.TheConstants.OFPTMFC_BAD_TABLE, declared.code.Code.Code}
+use Rattle.of_messages.specs.{declared.config.SwitchConfig.SwitchConfig, declared.config.TableMod.TableMod}
 use Rattle.of_formats.specs.Structs.{numbers}
 use Rattle.of_formats.specs.Tables as tables
 

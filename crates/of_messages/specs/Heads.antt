@@ -4,13 +4,10 @@ use Rattle.std.specs.Option.{option_map}
 use Rattle.byteorder.specs.Endian.{big_number}
 use Rattle.of_wire.specs.declared.codes.TheConstants.{OFPBRC_BAD_EXPERIMENTER, OFPBRC_BAD_LEN, OFPBRC_BAD_TYPE, OFPBRC_BAD_VERSION, OFPBRC_IS_SLAVE}
 use Rattle.of_wire.specs.declared.code.Code.{Code}
-use Rattle.of_formats.specs.declared.messages.MessageRow.{MessageRow}
-use Rattle.of_formats.specs.declared.messages.Size.{Size}
-use Rattle.of_formats.specs.declared.messages.Size.TheVariants.{Exact, Least}
+use Rattle.of_formats.specs.{declared.messages.MessageRow.MessageRow, declared.messages.Size.Size, declared.messages.Size.TheVariants.Exact, declared.messages.Size.TheVariants.Least}
 use Rattle.of_formats.specs.declared.messages.TheConstants.{EXPERIMENTER, HELLO, PACKET_OUT}
 use Rattle.of_formats.specs.Messages.{is_bad_size, is_read, message_row}
-use Rattle.of_messages.specs.declared.role.Role.{Role}
-use Rattle.of_messages.specs.declared.role.Role.TheVariants.{Equal, Master, Slave}
+use Rattle.of_messages.specs.{declared.role.Role.Role, declared.role.Role.TheVariants.Equal, declared.role.Role.TheVariants.Master, declared.role.Role.TheVariants.Slave}
 
 abbrev pub version_of : List ℕ → ℕ
 version_of m = slice_index m 0

@@ -2,38 +2,21 @@
 use Rattle.std.specs.Prelude.{ℕ, ◌+◌, ◌==◌, nat_lt, nat_le, Bool, true, false, not, ◌&&◌, ◌||◌, List, [], ◌∷◌, ◌++◌, take, drop, slice_get, Option, Some, None, is_none, Result, Ok, Err, if◌then◌else◌}
 use Rattle.of_wire.specs.declared.limits.TheConstants.{FLOW_MOD_FLAGS, OFPTT_ALL, OFP_NO_BUFFER, TABLES, OFPP_CONTROLLER}
 use Rattle.of_wire.specs.declared.codes.TheConstants.{OFPBAC_MATCH_INCONSISTENT, OFPBRC_BAD_LEN, OFPBRC_BAD_PACKET, OFPBRC_BAD_PORT, OFPBRC_BAD_TYPE, OFPFMFC_BAD_COMMAND, OFPFMFC_BAD_FLAGS, OFPFMFC_BAD_TABLE_ID}
-use Rattle.of_wire.specs.declared.code.Code.{Code}
-use Rattle.of_wire.specs.Refusals.{first_of}
+use Rattle.of_wire.specs.{declared.code.Code.Code, Refusals.first_of}
 use Rattle.of_oxm.specs.MatchReading.{match_of}
-use Rattle.of_actions.specs.declared.instruction.Instruction.{Instruction}
-use Rattle.of_actions.specs.Actions.{actions_said}
-use Rattle.of_actions.specs.InstructionReading.{instructions_in_bytes}
-use Rattle.of_actions.specs.FlowCheck.{all_go_with}
-use Rattle.of_actions.specs.PortNumbers.{is_number}
+use Rattle.of_actions.specs.{declared.instruction.Instruction.Instruction, Actions.actions_said, InstructionReading.instructions_in_bytes, FlowCheck.all_go_with, PortNumbers.is_number}
 use Rattle.of_headers.specs.Faults.{frame_fault}
-use Rattle.of_messages.specs.declared.message.Message.{Message}
 use Rattle.of_messages.specs.declared.message.Message.TheVariants.{Hello, Error, EchoRequest, EchoReply, FeaturesRequest, GetConfigRequest, SetConfig, PacketOut as IsPacketOut, FlowMod as IsFlowMod, GroupMod as IsGroupMod, PortMod as IsPortMod, TableMod as IsTableMod, Multipart, BarrierRequest, RoleRequest as IsRoleRequest, GetAsyncRequest, SetAsync}
-use Rattle.of_messages.specs.declared.role.Role.{Role}
+use Rattle.of_messages.specs.{declared.message.Message.Message, declared.role.Role.Role, Heads.head_refusals, Heads.role_refusals, AsyncConfigs.async_masks_of}
+use Rattle.of_messages.specs.{Configs.set_config_of, Configs.table_mod_of, GroupMods.group_mod_of, Multiparts.multipart_of, PortMods.port_mod_of, Roles.role_request_of}
+use Rattle.of_messages.specs.{declared.message.PacketOut.PacketOut, declared.message.PacketData.PacketData}
+use Rattle.of_messages.specs.{declared.message.PacketData.TheVariants.Buffered, declared.message.PacketData.TheVariants.Frame, declared.message.FlowMod.FlowMod}
+use Rattle.of_messages.specs.{declared.message.FlowModCommand.FlowModCommand, declared.message.FlowModCommand.TheVariants.Delete, declared.message.TheConstants.COMMANDS}
 use Rattle.of_messages.specs.declared.role.Role.TheVariants as role
-use Rattle.of_messages.specs.Heads.{head_refusals, role_refusals}
 pub use Rattle.of_messages.specs.Heads.{version_of, type_of, header_length, xid_of}
 use Rattle.of_formats.specs.declared.messages.TheConstants.{BARRIER_REQUEST, ECHO_REPLY, ECHO_REQUEST, ERROR, FEATURES_REQUEST, FLOW_MOD, GET_ASYNC_REQUEST, GET_CONFIG_REQUEST, GROUP_MOD, HELLO, MULTIPART_REQUEST, PACKET_OUT, PORT_MOD, ROLE_REQUEST, SET_ASYNC, SET_CONFIG, TABLE_MOD}
-use Rattle.of_formats.specs.Reading.{◌>>=◌, unless, known}
-use Rattle.of_formats.specs.Structs.{numbers, size}
+use Rattle.of_formats.specs.{Reading.◌>>=◌, Reading.unless, Reading.known, Structs.numbers, Structs.size}
 use Rattle.of_formats.specs.Tables as tables
-use Rattle.of_messages.specs.AsyncConfigs.{async_masks_of}
-use Rattle.of_messages.specs.Configs.{set_config_of, table_mod_of}
-use Rattle.of_messages.specs.GroupMods.{group_mod_of}
-use Rattle.of_messages.specs.Multiparts.{multipart_of}
-use Rattle.of_messages.specs.PortMods.{port_mod_of}
-use Rattle.of_messages.specs.Roles.{role_request_of}
-use Rattle.of_messages.specs.declared.message.PacketOut.{PacketOut}
-use Rattle.of_messages.specs.declared.message.PacketData.{PacketData}
-use Rattle.of_messages.specs.declared.message.PacketData.TheVariants.{Buffered, Frame}
-use Rattle.of_messages.specs.declared.message.FlowMod.{FlowMod}
-use Rattle.of_messages.specs.declared.message.FlowModCommand.{FlowModCommand}
-use Rattle.of_messages.specs.declared.message.FlowModCommand.TheVariants.{Delete}
-use Rattle.of_messages.specs.declared.message.TheConstants.{COMMANDS}
 
 -- FLOW_MOD (7.3.4.1)
 

@@ -2,21 +2,15 @@
 use Rattle.std.specs.Prelude.{ℕ, ◌+◌, ◌%◌, ◌==◌, Bool, not, ◌≡◌, ⊤, true, List, [], ◌∷◌, length, drop, Option, Some, None, is_none, Result, Ok, Err, if◌then◌else◌}
 use Rattle.of_wire.specs.declared.limits.TheConstants.{OFPP_ANY, OFPG_ALL}
 use Rattle.of_wire.specs.declared.codes.TheConstants.{OFPBRC_BAD_LEN, OFPBRC_BAD_MULTIPART, OFPBRC_BAD_TABLE_ID, OFPBRC_MULTIPART_BUFFER_OVERFLOW}
-use Rattle.of_wire.specs.declared.code.Code.{Code}
-use Rattle.of_wire.specs.Refusals.{first_of}
+use Rattle.of_wire.specs.{declared.code.Code.Code, Refusals.first_of}
 use Rattle.of_oxm.specs.MatchReading.{match_of}
-use Rattle.of_formats.specs.declared.messages.Size.{Size}
-use Rattle.of_formats.specs.declared.messages.Size.TheVariants.{Exact, Least}
-use Rattle.of_messages.specs.declared.multipart.FlowStatsRequest.{FlowStatsRequest}
-use Rattle.of_messages.specs.declared.multipart.MultipartKind.{MultipartKind}
-use Rattle.of_messages.specs.declared.multipart.MultipartKind.TheVariants as kind
-use Rattle.of_messages.specs.declared.multipart.MultipartRequest.{MultipartRequest}
+use Rattle.of_formats.specs.{declared.messages.Size.Size, declared.messages.Size.TheVariants.Exact, declared.messages.Size.TheVariants.Least, Reading.◌>>=◌, Reading.unless}
+use Rattle.of_formats.specs.{Structs.numbers, Structs.size, Messages.is_bad_size}
 use Rattle.of_messages.specs.declared.multipart.MultipartRequest.TheVariants.{Description, Flow, Aggregate, Table, PortStats, Group, GroupDescription, GroupFeatures, PortDescription}
-use Rattle.of_formats.specs.Reading.{◌>>=◌, unless}
-use Rattle.of_formats.specs.Structs.{numbers, size}
-use Rattle.of_formats.specs.Tables as tables
-use Rattle.of_formats.specs.Messages.{is_bad_size}
+use Rattle.of_messages.specs.{declared.multipart.FlowStatsRequest.FlowStatsRequest, declared.multipart.MultipartKind.MultipartKind, declared.multipart.MultipartRequest.MultipartRequest}
 use Rattle.of_messages.specs.Configs.{names_table}
+use Rattle.of_messages.specs.declared.multipart.MultipartKind.TheVariants as kind
+use Rattle.of_formats.specs.Tables as tables
 
 -- what a number asks for
 unfoldable pub multipart_kind_of : ℕ → Option MultipartKind

@@ -1,17 +1,12 @@
 -- What holds for each message that was read, beyond its fields.
 use Rattle.std.specs.Prelude.{◌≡◌, ◌<◌, ◌≤◌, false, true, length, None, ⊤}
 use Rattle.of_wire.specs.declared.limits.TheConstants.{OFPG_MAX}
-use Rattle.of_actions.specs.InstructionLists.{are_for}
-use Rattle.of_actions.specs.FlowCheck.{all_go_with}
+use Rattle.of_actions.specs.{InstructionLists.are_for, FlowCheck.all_go_with}
 use Rattle.of_headers.specs.Faults.{frame_fault}
-use Rattle.of_messages.specs.declared.message.Message.{Message}
 use Rattle.of_messages.specs.declared.message.Message.TheVariants.{EchoRequest, PacketOut as IsPacketOut, FlowMod as IsFlowMod, GroupMod as IsGroupMod, Multipart}
-use Rattle.of_messages.specs.declared.message.FlowMod.{FlowMod}
-use Rattle.of_messages.specs.declared.group_mod.GroupMod.{GroupMod}
+use Rattle.of_messages.specs.{declared.message.Message.Message, declared.message.FlowMod.FlowMod, declared.group_mod.GroupMod.GroupMod}
 use Rattle.of_messages.specs.declared.group_mod.GroupMod.TheVariants.{Add, Modify, Delete}
-use Rattle.of_messages.specs.declared.message.PacketData.{PacketData}
-use Rattle.of_messages.specs.declared.message.PacketData.TheVariants.{Buffered, Frame}
-use Rattle.of_messages.specs.Messages.{is_delete}
+use Rattle.of_messages.specs.{declared.message.PacketData.PacketData, declared.message.PacketData.TheVariants.Buffered, declared.message.PacketData.TheVariants.Frame, Messages.is_delete}
 use Rattle.of_messages.specs.Multiparts.{IsSoundRequest}
 
 -- an ADD or a MODIFY names a table, its instructions are valid there, and its set-field actions have their prerequisites in the match

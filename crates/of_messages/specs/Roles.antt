@@ -1,14 +1,11 @@
 -- The role of a controller (OpenFlow 1.3.5, 6.3.4 and 7.3.9), as it is requested and replied.
 use Rattle.std.specs.Prelude.{ℕ, ◌==◌, List, [], ◌∷◌, Option, Some, None, Result, Ok, Err, if◌then◌else◌}
-use Rattle.of_wire.specs.declared.codes.TheConstants.{OFPBRC_BAD_LEN, OFPRRFC_BAD_ROLE}
-use Rattle.of_wire.specs.declared.code.Code.{Code}
-use Rattle.of_messages.specs.declared.role.Role.{Role}
-use Rattle.of_messages.specs.declared.role.Role.TheVariants as role
-use Rattle.of_messages.specs.declared.role.RoleRequest.{RoleRequest}
-use Rattle.of_formats.specs.Reading.{known}
-use Rattle.of_formats.specs.Structs.{numbers}
-use Rattle.of_formats.specs.Tables as tables
+use Rattle.of_wire.specs.{declared.codes.TheConstants.OFPBRC_BAD_LEN, declared.codes.TheConstants.OFPRRFC_BAD_ROLE, declared.code.Code.Code}
+use Rattle.of_messages.specs.{declared.role.Role.Role, declared.role.RoleRequest.RoleRequest}
 use Rattle.of_messages.specs.declared.role.RoleRequest.TheVariants.{NoChange, Equal, Master, Slave}
+use Rattle.of_messages.specs.declared.role.Role.TheVariants as role
+use Rattle.of_formats.specs.{Reading.known, Structs.numbers}
+use Rattle.of_formats.specs.Tables as tables
 
 -- the role that a number asks for, with a generation_id, which counts for MASTER and SLAVE
 unfoldable pub asked_by : ℕ → ℕ → Option RoleRequest

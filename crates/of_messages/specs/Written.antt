@@ -1,29 +1,19 @@
 -- The bytes of the messages that the switch sends.
 use Rattle.std.specs.Prelude.{◌≡◌, ◌≤◌, ℕ, ◌+◌, ◌==◌, if◌then◌else◌, List, [], ◌∷◌, ◌++◌, length, replicate, Option, None}
 use Rattle.byteorder.specs.Endian.{big_bytes}
-use Rattle.of_wire.specs.declared.code.Code.{Code}
-use Rattle.of_oxm.specs.declared.match_field.MatchField.{MatchField}
-use Rattle.of_oxm.specs.Canonical.{canonical}
+use Rattle.of_wire.specs.{declared.code.Code.Code, Reasons.flow_removed_number, Reasons.packet_in_number, declared.limits.TheConstants.BUFFERS}
+use Rattle.of_oxm.specs.{declared.match_field.MatchField.MatchField, Canonical.canonical}
 use Rattle.of_layers.specs.declared.field.Field.TheVariants.{InPort, Metadata}
 use Rattle.of_actions.specs.CanonicalInstructions.{canonical_instructions}
-use Rattle.of_wire.specs.Reasons.{flow_removed_number, packet_in_number}
 use Rattle.of_formats.specs.declared.messages.TheConstants.{BARRIER_REPLY, ECHO_REPLY, ERROR, FEATURES_REPLY, FLOW_MOD, FLOW_REMOVED, GET_ASYNC_REPLY, GET_CONFIG_REPLY, HELLO, PACKET_IN, PORT_STATUS, ROLE_REPLY}
 use Rattle.of_formats.specs.Structs.{written}
 use Rattle.of_formats.specs.Tables as tables
-use Rattle.of_messages.specs.Heads.{version_of, header_length}
-use Rattle.of_messages.specs.Roles.{role_number, generation_number}
-use Rattle.of_messages.specs.declared.async_masks.AsyncMasks.{AsyncMasks}
-use Rattle.of_messages.specs.declared.config.SwitchConfig.{SwitchConfig}
-use Rattle.of_wire.specs.declared.limits.TheConstants.{BUFFERS}
-use Rattle.of_messages.specs.declared.role.Role.{Role}
-use Rattle.of_messages.specs.declared.message.FlowMod.{FlowMod}
-use Rattle.of_messages.specs.declared.message.FlowModCommand.{FlowModCommand}
+use Rattle.of_messages.specs.{Heads.version_of, Heads.header_length, Roles.role_number, Roles.generation_number, declared.async_masks.AsyncMasks.AsyncMasks}
+use Rattle.of_messages.specs.{declared.config.SwitchConfig.SwitchConfig, declared.role.Role.Role, declared.message.FlowMod.FlowMod, declared.message.FlowModCommand.FlowModCommand}
 use Rattle.of_messages.specs.declared.message.FlowModCommand.TheVariants.{Add, Modify, Delete}
-use Rattle.of_messages.specs.declared.message.PacketIn.{PacketIn}
-use Rattle.of_messages.specs.declared.port_mod.PortDescription.{PortDescription}
-use Rattle.of_messages.specs.declared.port_mod.PortStatusReason.{PortStatusReason}
-use Rattle.of_messages.specs.declared.port_mod.PortStatusReason.TheVariants as status
+use Rattle.of_messages.specs.{declared.message.PacketIn.PacketIn, declared.port_mod.PortDescription.PortDescription, declared.port_mod.PortStatusReason.PortStatusReason}
 use Rattle.of_messages.specs.declared.message.FlowRemoved.{FlowRemoved}
+use Rattle.of_messages.specs.declared.port_mod.PortStatusReason.TheVariants as status
 
 -- version 4, type, length, transaction id (OpenFlow 1.3.5, 7.1)
 abbrev pub message_header : ℕ → ℕ → ℕ → List ℕ

@@ -1,7 +1,6 @@
 //! Which asynchronous messages a controller is sent (OpenFlow 1.3.5, 7.3.10).
 ghost use Rattle.std.specs.Prelude.{◌≡◌, ◌≤◌, ◌+◌, ◌++◌, length, drop, IfOk, OnOk};
-ghost use Rattle.of_messages.specs.AsyncConfigs.{async_masks_of, masks};
-ghost use Rattle.of_messages.specs.Written.{async_reply_bytes};
+ghost use Rattle.of_messages.specs.{AsyncConfigs.async_masks_of, AsyncConfigs.masks, Written.async_reply_bytes};
 ghost use Rattle.byteorder.specs.Endian.{big_bytes, big_number};
 
 use crate::message_bytes::MessageBytes;

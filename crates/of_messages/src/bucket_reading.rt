@@ -1,7 +1,6 @@
 //! Buckets from bytes (OpenFlow 1.3.5, 7.3.4.2).
 ghost use Rattle.std.specs.Prelude.{◌≡◌, ◌≤◌, false, length, IsTrue, IfOk, OnOk, IfErr, Some, None};
-ghost use Rattle.of_wire.specs.Failures.{Fails, Reads};
-ghost use Rattle.of_wire.specs.Refusals.{first_of};
+ghost use Rattle.of_wire.specs.{Failures.Fails, Failures.Reads, Refusals.first_of};
 ghost use Rattle.of_actions.specs.Supported.{are_supported};
 ghost use Rattle.of_messages.specs.Buckets.{bucket_of_bytes, bucket_refusals, buckets_said, bucket_len_at};
 

@@ -1,8 +1,7 @@
 //! The configuration of a switch and of its tables (OpenFlow 1.3.5, 7.3.2 and 7.3.3).
 ghost use Rattle.std.specs.Prelude.{◌≡◌, ◌≤◌, length, IfOk};
 ghost use Rattle.of_wire.specs.Failures.{Reads};
-ghost use Rattle.of_messages.specs.Configs.{names_table as is_named, set_config_of, table_mod_of};
-ghost use Rattle.of_messages.specs.Written.{config_reply_bytes};
+ghost use Rattle.of_messages.specs.{Configs.names_table as is_named, Configs.set_config_of, Configs.table_mod_of, Written.config_reply_bytes};
 
 use crate::message_bytes::MessageBytes;
 use crate::reading::rest_from;

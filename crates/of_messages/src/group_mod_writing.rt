@@ -3,9 +3,7 @@ ghost use Rattle.std.specs.Prelude.{◌≡◌, ◌≤◌, ◌++◌, true, IsTrue
 ghost use Rattle.std.specs.List.{list_all};
 ghost use Rattle.of_groups.specs.Buckets.{are_fit};
 ghost use Rattle.of_messages.specs.CanonicalGroups.{as_written, canonical_bucket, canonical_buckets, group_add_bytes, group_add_fixed_part, has_numbers};
-ghost use Rattle.of_messages.specs.Messages.{message_of};
-ghost use Rattle.of_messages.specs.declared.message.Message.TheVariants.{GroupMod as IsGroupMod};
-ghost use Rattle.of_messages.specs.declared.group_mod.GroupMod.TheVariants.{Add};
+ghost use Rattle.of_messages.specs.{Messages.message_of, declared.message.Message.TheVariants.GroupMod as IsGroupMod, declared.group_mod.GroupMod.TheVariants.Add};
 
 use crate::group_mod::NewGroup;
 use crate::writing::put_header;

@@ -1,7 +1,6 @@
 //! Laws of messages.
 ghost use Rattle.std.specs.Prelude.{◌≤◌, length};
-ghost use Rattle.of_messages.specs.Hellos.{AreElements, elements_of};
-ghost use Rattle.of_messages.specs.Written.{IsMessage, message};
+ghost use Rattle.of_messages.specs.{Hellos.AreElements, Hellos.elements_of, Written.IsMessage, Written.message};
 
 /// What is written is one message, whose header says its length, as long as at most 65,527 bytes follow the header
 /// (OpenFlow 1.3.5, 7.1). Each `write_` gives such a `message`.

@@ -1,10 +1,8 @@
 //! MULTIPART_REQUEST (OpenFlow 1.3.5, 7.3.5).
 ghost use Rattle.std.specs.Prelude.{◌≡◌, ◌≤◌, length, true, IfOk, MatchResult, None, Some};
-ghost use Rattle.of_wire.specs.Refusals.{first_of};
-ghost use Rattle.of_wire.specs.Failures.{Reads};
-ghost use Rattle.of_messages.specs.Configs.{names_table as is_named};
-ghost use Rattle.of_messages.specs.Heads.{IsSized};
+ghost use Rattle.of_wire.specs.{Refusals.first_of, Failures.Reads};
 ghost use Rattle.of_messages.specs.Multiparts.{IsSoundRequest, flow_stats_of, multipart_kind_in, multipart_kind_of, multipart_of, multipart_refusals, requested_number, one_or_all as asked, request_of, multipart_size};
+ghost use Rattle.of_messages.specs.{Configs.names_table as is_named, Heads.IsSized};
 
 use crate::config::names_table;
 use crate::reading::rest_from;

@@ -2,9 +2,8 @@
 ghost use Rattle.std.specs.Prelude.{◌≡◌, ◌≤◌, ◌<◌, ◌+◌, length, drop, Some, None, true, false, slice_index, IfOk, MatchResult};
 ghost use Rattle.byteorder.specs.Endian.{big_number};
 ghost use Rattle.of_wire.specs.Failures.{Reads};
-ghost use Rattle.of_messages.specs.Heads.{HasHead, actions_length};
 ghost use Rattle.of_messages.specs.Messages.{message_from, message_of, message_body, command_said, flow_mod_of, instructions_for, is_delete, is_ingress as may_be_ingress, packet_in_data, packet_out_of};
-ghost use Rattle.of_messages.specs.Promised.{IsSoundFlowMod, IsSoundPacket, IsSoundMessage};
+ghost use Rattle.of_messages.specs.{Heads.HasHead, Heads.actions_length, Promised.IsSoundFlowMod, Promised.IsSoundPacket, Promised.IsSoundMessage};
 ghost use Rattle.of_actions.specs.InstructionLists.{are_for};
 
 use crate::async_masks::read_async_masks;

@@ -1,8 +1,7 @@
 //! The role of a controller (OpenFlow 1.3.5, 6.3.4 and 7.3.9).
 ghost use Rattle.std.specs.Prelude.{◌≡◌, ◌≤◌, length, IfOk};
 ghost use Rattle.of_wire.specs.Failures.{Reads};
-ghost use Rattle.of_messages.specs.Roles.{asked_by, generation_number, role_number, role_request_of};
-ghost use Rattle.of_messages.specs.Written.{role_reply_bytes};
+ghost use Rattle.of_messages.specs.{Roles.asked_by, Roles.generation_number, Roles.role_number, Roles.role_request_of, Written.role_reply_bytes};
 
 use crate::message_bytes::MessageBytes;
 use crate::reading::rest_from;

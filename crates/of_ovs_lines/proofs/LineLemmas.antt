@@ -1,10 +1,8 @@
 -- What words say, one after the other.
 use Rattle.std.proofs.Common.{◌≡◌, ℕ, ◌<◌, eqb, sym, true, false, cond, List, [], ◌∷◌, length, refl, ap, ◌∙◌}
 use Rattle.std.specs.List.{fold}
-use Rattle.of_ovs_words.specs.Words.{words_from, word_in, word_name, after_word}
-use Rattle.of_ovs_lines.specs.LineContents.{with_words, words_before_actions}
-use Rattle.of_ovs_lines.specs.PartialFlows.{begins_actions}
-use Rattle.of_ovs_words.proofs.WordLemmas.{first_word}
+use Rattle.of_ovs_words.{specs.Words.words_from, specs.Words.word_in, specs.Words.word_name, specs.Words.after_word, proofs.WordLemmas.first_word}
+use Rattle.of_ovs_lines.specs.{LineContents.with_words, LineContents.words_before_actions, PartialFlows.begins_actions}
 
 pub words_at_end : {S : Type 0} (step : S → List ℕ → S) (s : S) → with_words step s (words_from 0 []) ≡ s
 unfolding words_from

@@ -1,35 +1,22 @@
 -- The flow of its words may stand in a flow text.
 use Rattle.std.proofs.Common.{◌≡◌, ℕ, ◌+◌, ◌<◌, ◌≤◌, ◌^◌, eqb, Bool, true, false, cond, List, [], ◌∷◌, ◌++◌, length, Option, Some, None, refl, sym, ap, subst, ◌∙◌, append_assoc, arith}
 use Rattle.std.specs.Prelude.{codes, map, not, nat_lt, nat_le, ◌&&◌, ◌||◌, IsSome, IfSome, reverse, find, filter_map}
-use Rattle.std.specs.List.{AllByRecursion, flat_map, list_all}
-use Rattle.std.specs.Option.{option_map_or}
-use Rattle.std.proofs.lemmas.Bool.{le-leb, leb-true, ltb-true, eqb-true}
-use Rattle.std.proofs.lemmas.List.Folds.{list_all-map}
-use Rattle.of_layers.specs.declared.field.Field.{Field}
+use Rattle.std.specs.{List.AllByRecursion, List.flat_map, List.list_all, Option.option_map_or}
+use Rattle.std.proofs.{lemmas.Bool.le-leb, lemmas.Bool.leb-true, lemmas.Bool.ltb-true, lemmas.Bool.eqb-true, lemmas.List.Folds.list_all-map, lemmas.List.append-nil}
+use Rattle.of_layers.{specs.declared.field.Field.Field, specs.Fields.number_of, specs.Fields.ones_of, specs.Fields.row_of, proofs.Table.value_below, proofs.Table.number_below}
 use Rattle.of_layers.specs.declared.field.TheConstants.Field as constants
-use Rattle.of_layers.specs.Fields.{number_of, ones_of, row_of}
-use Rattle.of_layers.proofs.Table.{value_below, number_below}
 use Rattle.of_oxm.specs.declared.match_field.MatchField.{MatchField}
-use Rattle.of_actions.specs.declared.action.Action.{Action}
-use Rattle.of_actions.specs.declared.argument.Argument.{Argument}
 use Rattle.of_actions.specs.declared.argument.Argument.TheVariants.{Nothing, Byte, Tag, Word, Port, Field as FieldValue}
-use Rattle.of_actions.specs.declared.instruction.Instruction.{Instruction}
-use Rattle.of_actions.specs.declared.instruction.Instruction.TheVariants.{Apply, Clear, Write}
-use Rattle.of_actions.specs.Rows.{said}
+use Rattle.of_actions.specs.{declared.action.Action.Action, declared.argument.Argument.Argument, declared.instruction.Instruction.Instruction}
+use Rattle.of_actions.specs.{declared.instruction.Instruction.TheVariants.Apply, declared.instruction.Instruction.TheVariants.Clear, declared.instruction.Instruction.TheVariants.Write, Rows.said}
 use Rattle.of_lines.specs.declared.row.Row.{Row}
 use Rattle.of_lines.specs.declared.row.Row.TheVariants as rows
-use Rattle.of_text.specs.Flows.{instruction_rows}
 use Rattle.of_text.specs.Rows.{Fits, ActionFits, ArgumentFits, HeadFits, IsMask}
-use Rattle.of_text.specs.Order.{flow_next, flow_standing}
-use Rattle.of_ovs_words.specs.Settings.{last_of}
-use Rattle.of_ovs_words.specs.Matches.{fields_of_settings}
-use Rattle.of_ovs_lines.specs.PartialFlows.{PartialFlow, Refusal}
+use Rattle.of_text.specs.{Flows.instruction_rows, Order.flow_next, Order.flow_standing, Groups.TextBucket, Groups.bucket_rows}
+use Rattle.of_ovs_words.specs.{Settings.last_of, Matches.fields_of_settings}
 use Rattle.of_ovs_lines.specs.Finished.{when, metadata_instruction, goto_instruction, instructions_of, field_fits, action_fits, argument_fits, numbers_fit, finished_flow, refusal_of}
+use Rattle.of_ovs_lines.specs.{PartialFlows.PartialFlow, PartialFlows.Refusal, PartialGroups.bucket_fits, Sound.IsSoundFlow}
 use Rattle.of_ovs_words.specs.declared.why.Why.TheVariants as whys
-use Rattle.of_ovs_lines.specs.PartialGroups.{bucket_fits}
-use Rattle.of_text.specs.Groups.{TextBucket, bucket_rows}
-use Rattle.std.proofs.lemmas.List.{append-nil}
-use Rattle.of_ovs_lines.specs.Sound.{IsSoundFlow}
 
 pub mapped_tests : {X Y : Type 0} (p : Y → Bool) (g : X → Y) (xs : List X) → list_all p (map g xs) ≡ list_all (λ x. p (g x)) xs
 mapped_tests p g xs = list_all-map p g xs

@@ -1,24 +1,15 @@
 -- THE FLOW OF ITS WORDS.
 use Rattle.std.specs.Prelude.{ℕ, ◌^◌, ◌==◌, ◌&&◌, not, nat_le, nat_lt, Bool, true, List, [], ◌∷◌, ◌++◌, length, codes, find, slice_index_or, Option, Some, None, if◌then◌else◌}
-use Rattle.std.specs.Option.{option_map, option_map_or}
-use Rattle.std.specs.List.{list_all}
-use Rattle.of_layers.specs.declared.field.Field.{Field}
-use Rattle.of_layers.specs.declared.field.Prerequisite.{Prerequisite}
+use Rattle.std.specs.{Option.option_map, Option.option_map_or, List.list_all}
+use Rattle.of_layers.specs.{declared.field.Field.Field, declared.field.Prerequisite.Prerequisite, Fields.ones_of, Fields.prerequisite_of}
 use Rattle.of_layers.specs.declared.field.Prerequisite.TheVariants as needs
-use Rattle.of_layers.specs.Fields.{ones_of, prerequisite_of}
-use Rattle.of_oxm.specs.Prerequisites.{is_met}
-use Rattle.of_oxm.specs.declared.match_field.MatchField.{MatchField}
-use Rattle.of_actions.specs.declared.action.Action.{Action}
-use Rattle.of_actions.specs.declared.argument.Argument.{Argument}
+use Rattle.of_oxm.specs.{Prerequisites.is_met, declared.match_field.MatchField.MatchField}
 use Rattle.of_actions.specs.declared.argument.Argument.TheVariants.{Nothing, Byte, Tag, Word, Port, Field as FieldValue}
-use Rattle.of_actions.specs.declared.instruction.Instruction.{Instruction}
 use Rattle.of_actions.specs.declared.instruction.Instruction.TheVariants.{Apply, Clear, Write, Metadata, Goto}
-use Rattle.of_actions.specs.Rows.{said}
+use Rattle.of_actions.specs.{declared.action.Action.Action, declared.argument.Argument.Argument, declared.instruction.Instruction.Instruction, Rows.said}
 use Rattle.of_text.specs.Flows.{Flow}
-use Rattle.of_ovs_words.specs.declared.why.Why.{Why}
+use Rattle.of_ovs_words.specs.{declared.why.Why.Why, Matches.fields_of_settings, FieldWords.text_for}
 use Rattle.of_ovs_words.specs.declared.why.Why.TheVariants as whys
-use Rattle.of_ovs_words.specs.Matches.{fields_of_settings}
-use Rattle.of_ovs_words.specs.FieldWords.{text_for}
 use Rattle.of_ovs_lines.specs.PartialFlows.{PartialFlow, Refusal}
 
 abbrev pub when : {A : Type 0} → Bool → A → List A

@@ -1,17 +1,12 @@
 -- WHAT A LINE SAYS (ovs-ofctl(8)): a flow, a group, nothing, or words that are refused.
 use Rattle.std.specs.Prelude.{ℕ, ◌==◌, ◌&&◌, ◌||◌, Bool, List, [], ◌∷◌, codes, is_some, length, not, Option, Some, None, Result, Ok, Err, if◌then◌else◌}
-use Rattle.std.specs.List.{fold}
-use Rattle.std.specs.Str.{bytes_eq}
-use Rattle.of_text.specs.Flows.{Flow as TextFlow}
-use Rattle.of_text.specs.Groups.{TextGroup}
-use Rattle.of_text.specs.Lines.{before}
-use Rattle.of_ovs_words.specs.declared.why.Why.{Why}
-use Rattle.of_ovs_words.specs.ProtocolWords.{protocol_named}
+use Rattle.std.specs.{List.fold, Str.bytes_eq}
+use Rattle.of_text.specs.{Flows.Flow as TextFlow, Groups.TextGroup, Lines.before}
 use Rattle.of_ovs_words.specs.Words.{after_word, is_gap, word_name, word_in, words_from}
-use Rattle.of_ovs_lines.specs.declared.mode.Mode.{Mode}
+use Rattle.of_ovs_words.specs.{declared.why.Why.Why, ProtocolWords.protocol_named}
 use Rattle.of_ovs_lines.specs.PartialFlows.{PartialFlow, Refusal, begins_actions, blank, with_flow_word}
-use Rattle.of_ovs_lines.specs.Finished.{finished_flow, in_numbers, refusal_of}
 use Rattle.of_ovs_lines.specs.PartialGroups.{PartialGroup, is_other_command, no_group, with_group_word, finished_group}
+use Rattle.of_ovs_lines.specs.{declared.mode.Mode.Mode, Finished.finished_flow, Finished.in_numbers, Finished.refusal_of}
 
 -- what a flow text does not have: actions that are left out, whether GOTO_TABLE is the line's `resubmit`, and counters
 pub record Marks : Type 0 where

@@ -1,8 +1,6 @@
 -- A flow that is being read, apart from its layout in memory.
 use Rattle.std.specs.Prelude.{map}
-use Rattle.of_ovs_lines.specs.declared.word_fault.WordFault.{WordFault}
-use Rattle.of_ovs_lines.specs.declared.partial_flow.PartialFlow.{PartialFlow as Declared}
-use Rattle.of_ovs_lines.specs.PartialFlows.{PartialFlow, Refusal}
+use Rattle.of_ovs_lines.specs.{declared.word_fault.WordFault.WordFault, declared.partial_flow.PartialFlow.PartialFlow as Declared, PartialFlows.PartialFlow, PartialFlows.Refusal}
 
 abbrev pub view_word_fault : WordFault → Refusal
 view_word_fault f = record { word = f.word.items; why = f.why }

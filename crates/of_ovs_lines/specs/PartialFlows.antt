@@ -5,24 +5,14 @@ use Rattle.of_oxm.specs.declared.match_field.MatchField.{MatchField}
 use Rattle.of_actions.specs.declared.action.Action.{Action}
 use Rattle.of_lines.specs.declared.row.FlowHead.{FlowHead}
 use Rattle.of_text.specs.Lines.{before, behind}
-use Rattle.of_ovs_words.specs.declared.why.Why.{Why}
-use Rattle.of_ovs_words.specs.declared.why.Why.TheVariants as whys
-use Rattle.of_ovs_words.specs.declared.head_word.HeadWord.{HeadWord}
-use Rattle.of_ovs_words.specs.declared.head_word.Part.{Part}
-use Rattle.of_ovs_words.specs.declared.head_word.Part.TheVariants as parts
-use Rattle.of_ovs_words.specs.declared.protocol_word.ProtocolWord.{ProtocolWord}
-use Rattle.of_ovs_words.specs.declared.field_word.FieldWord.{FieldWord}
-use Rattle.of_ovs_words.specs.declared.action_word.ActionWord.{ActionWord}
-use Rattle.of_ovs_words.specs.declared.action_word.Verb.{Verb}
-use Rattle.of_ovs_words.specs.declared.action_word.Verb.TheVariants as verbs
-use Rattle.of_ovs_words.specs.Words.{word_name, word_value, words_from}
-use Rattle.of_ovs_words.specs.Outcomes.{◌>>=◌, numbered}
-use Rattle.of_ovs_words.specs.HeadWords.{head_named}
-use Rattle.of_ovs_words.specs.ProtocolWords.{protocol_named}
-use Rattle.of_ovs_words.specs.FieldWords.{field_word_named}
-use Rattle.of_ovs_words.specs.ActionWords.{action_named}
-use Rattle.of_ovs_words.specs.Matches.{with_match_field, with_protocol}
+use Rattle.of_ovs_words.specs.{declared.why.Why.Why, declared.head_word.HeadWord.HeadWord, declared.head_word.Part.Part, declared.protocol_word.ProtocolWord.ProtocolWord}
+use Rattle.of_ovs_words.specs.{declared.field_word.FieldWord.FieldWord, declared.action_word.ActionWord.ActionWord, declared.action_word.Verb.Verb}
+use Rattle.of_ovs_words.specs.{Words.word_name, Words.word_value, Words.words_from, Outcomes.◌>>=◌, Outcomes.numbered, HeadWords.head_named, ProtocolWords.protocol_named}
+use Rattle.of_ovs_words.specs.{FieldWords.field_word_named, ActionWords.action_named, Matches.with_match_field, Matches.with_protocol}
 use Rattle.of_ovs_words.specs.Actions.{actions_in_words, is_word_of, with_action_in_word}
+use Rattle.of_ovs_words.specs.declared.why.Why.TheVariants as whys
+use Rattle.of_ovs_words.specs.declared.head_word.Part.TheVariants as parts
+use Rattle.of_ovs_words.specs.declared.action_word.Verb.TheVariants as verbs
 use Rattle.of_wire.specs.declared.limits.TheConstants.{TABLES}
 use Rattle.of_ovs_lines.specs.declared.mode.Mode.{Mode}
 

@@ -1,21 +1,15 @@
 -- WHAT THE WORDS OF A LINE SAY OF A GROUP, one after the other (ovs-ofctl(8)).
 use Rattle.std.specs.Prelude.{ℕ, ◌^◌, ◌&&◌, ◌||◌, nat_lt, Bool, true, false, ◌==◌, List, [], ◌∷◌, ◌++◌, codes, length, Option, Some, None, Result, Ok, Err, if◌then◌else◌}
-use Rattle.std.specs.List.{list_all}
-use Rattle.std.specs.Str.{bytes_eq}
+use Rattle.std.specs.{List.list_all, Str.bytes_eq}
 use Rattle.of_actions.specs.declared.action.Action.{Action}
 use Rattle.of_groups.specs.declared.group.GroupKind.{GroupKind}
 use Rattle.of_groups.specs.declared.group.GroupKind.TheVariants.{All, Indirect, FastFailover}
 use Rattle.of_lines.specs.declared.row.BucketHead.{BucketHead}
 use Rattle.of_text.specs.Groups.{TextBucket, TextGroup}
 use Rattle.of_wire.specs.declared.limits.TheConstants.{OFPG_ANY, OFPP_ANY}
-use Rattle.of_ovs_words.specs.declared.why.Why.{Why}
+use Rattle.of_ovs_words.specs.{declared.why.Why.Why, Words.word_name, Words.word_value, Outcomes.◌>>=◌, Outcomes.numbered, Ports.port_in, Actions.with_action_in_word}
 use Rattle.of_ovs_words.specs.declared.why.Why.TheVariants as whys
-use Rattle.of_ovs_words.specs.Words.{word_name, word_value}
-use Rattle.of_ovs_words.specs.Outcomes.{◌>>=◌, numbered}
-use Rattle.of_ovs_words.specs.Ports.{port_in}
-use Rattle.of_ovs_words.specs.Actions.{with_action_in_word}
-use Rattle.of_ovs_lines.specs.PartialFlows.{Refusal, begins_actions}
-use Rattle.of_ovs_lines.specs.Finished.{action_fits}
+use Rattle.of_ovs_lines.specs.{PartialFlows.Refusal, PartialFlows.begins_actions, Finished.action_fits}
 
 pub record PartialGroup : Type 0 where
   pub id : Option ℕ

@@ -2,10 +2,7 @@
 use Rattle.std.specs.Prelude.{ℕ, ◌-◌, ◌==◌, ◌&&◌, ◌||◌, nat_lt, Bool, true, false, List, [], ◌∷◌, ◌++◌, codes, drop, get_or, length, not, take, Result, Ok, Err, if◌then◌else◌}
 use Rattle.std.specs.Str.{bytes_eq, str_eq_ignore_ascii_case}
 use Rattle.of_lines.specs.Lines.{before, behind}
-use Rattle.of_ovs_words.specs.declared.why.Why.{Why}
-use Rattle.of_ovs_words.specs.declared.why.Why.TheVariants.{PortName}
-use Rattle.of_ovs_words.specs.Ports.{port_in}
-use Rattle.of_ovs_words.specs.Words.{is_gap}
+use Rattle.of_ovs_words.specs.{declared.why.Why.Why, declared.why.Why.TheVariants.PortName, Ports.port_in, Words.is_gap}
 use Rattle.of_ovs_lines.specs.LineContents.{trimmed}
 
 -- ---- the names, as `ovs-ofctl dump-ports-desc` prints them: ` 1(s1-eth1): addr:..`, ` LOCAL(s1): addr:..`

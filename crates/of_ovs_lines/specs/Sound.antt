@@ -1,14 +1,9 @@
 -- A FLOW WHOSE LINES MAY STAND IN A FLOW TEXT: each number fits its place, and its fields and instructions are in order.
-use Rattle.std.specs.Prelude.{◌++◌, map, IsSome}
-use Rattle.std.specs.List.{AllByRecursion, flat_map}
+use Rattle.std.specs.{Prelude.◌++◌, Prelude.map, Prelude.IsSome, List.AllByRecursion, List.flat_map}
 use Rattle.of_lines.specs.declared.row.Row.TheVariants as rows
-use Rattle.of_text.specs.Flows.{Flow, flow_rows, instruction_rows}
-use Rattle.of_text.specs.Groups.{group_rows}
-use Rattle.of_text.specs.Order.{flow_standing}
-use Rattle.of_text.specs.Rows.{Fits}
+use Rattle.of_text.specs.{Flows.Flow, Flows.flow_rows, Flows.instruction_rows, Groups.group_rows, Order.flow_standing, Rows.Fits, Views.view, Views.view_group}
 use Rattle.of_ovs_lines.specs.declared.line.LineContent.{LineContent as Declared}
 use Rattle.of_ovs_lines.specs.declared.line.LineContent.TheVariants as variants
-use Rattle.of_text.specs.Views.{view, view_group}
 
 pub record IsSoundFlow (f : Flow) : Type 0 where
   pub fits : AllByRecursion Fits (flow_rows f)

@@ -1,13 +1,10 @@
 //! The flow of its words.
 ghost use Rattle.std.specs.Prelude.{◌≡◌, ◌++◌, ◌&&◌, None, IfOk, OnOk, map, IfSome, [], ◌<◌, ◌^◌};
-ghost use Rattle.std.specs.List.{list_all};
-ghost use Rattle.std.specs.Option.{option_map};
+ghost use Rattle.std.specs.{List.list_all, Option.option_map};
 ghost use Rattle.of_ovs_lines.specs.Finished.{action_fits as action_fits_so, field_fits as field_fits_so, first_unmet as first_unmet_of, finished_flow, goto_instruction, metadata_instruction, refusal_of as refusal_in, instructions_of, when, why_missing as why_missing_so};
+ghost use Rattle.of_ovs_lines.specs.{PartialFlowViews.view_partial_flow, PartialFlowViews.view_word_fault, Sound.IsSoundFlow};
 ghost use Rattle.of_ovs_words.specs.Matches.{fields_of_settings as fields_in};
-ghost use Rattle.of_ovs_lines.specs.PartialFlowViews.{view_partial_flow, view_word_fault};
-ghost use Rattle.of_text.specs.Rows.{HeadFits};
-ghost use Rattle.of_ovs_lines.specs.Sound.{IsSoundFlow};
-ghost use Rattle.of_text.specs.Views.{view, view_instruction};
+ghost use Rattle.of_text.specs.{Rows.HeadFits, Views.view, Views.view_instruction};
 
 use crate::partial_flow::PartialFlow;
 use crate::word_fault::WordFault;

@@ -1,17 +1,11 @@
 //! What a line says.
 ghost use Rattle.std.specs.Prelude.{◌≡◌, ◌++◌, ◌∷◌, [], ◌||◌, codes, IfOk, OnOk};
-ghost use Rattle.std.specs.List.{fold};
-ghost use Rattle.std.specs.Str.{bytes_eq};
+ghost use Rattle.std.specs.{List.fold, Str.bytes_eq};
 ghost use Rattle.of_text.specs.Lines.{before};
 ghost use Rattle.of_ovs_words.specs.Words.{words_from};
-ghost use Rattle.of_ovs_lines.specs.Finished.{in_numbers, new_table_number as renumbered_by};
-ghost use Rattle.of_ovs_lines.specs.PartialFlows.{blank};
-ghost use Rattle.of_ovs_lines.specs.PartialGroups.{no_group, with_group_word};
 ghost use Rattle.of_ovs_lines.specs.LineContents.{begins_group as begins_group_so, flow_content, group_content, parsed_flow, parsed_group, is_command_name as is_command_word, is_heading as is_heading_text, names_group_id as names_group_so, parsed_line, parsed_text as parsed_text_of, says_protocol as says_protocol_so, with_later_word, with_word_of_protocol, with_words, words_before_actions, trimmed as trimmed_of};
-ghost use Rattle.of_ovs_lines.specs.Sound.{IsSoundContent};
-ghost use Rattle.of_ovs_lines.specs.PartialFlowViews.{view_partial_flow};
-ghost use Rattle.of_ovs_lines.specs.PartialGroupViews.{view_partial_group};
-ghost use Rattle.of_ovs_lines.specs.LineContentViews.{view_line_content};
+ghost use Rattle.of_ovs_lines.specs.{Finished.in_numbers, Finished.new_table_number as renumbered_by, PartialFlows.blank, PartialGroups.no_group, PartialGroups.with_group_word, Sound.IsSoundContent};
+ghost use Rattle.of_ovs_lines.specs.{PartialFlowViews.view_partial_flow, PartialGroupViews.view_partial_group, LineContentViews.view_line_content};
 
 use crate::finish::{flow_from, refusal_of};
 use crate::mode::Mode;

@@ -1,12 +1,10 @@
 //! The meaning of the words of a line for a group.
 ghost use Rattle.std.specs.Prelude.{◌≡◌, ◌++◌, ◌∷◌, IfOk, IfErr, OnOk, Ok, Err, map, false, [], ◌<◌, ◌^◌};
+ghost use Rattle.std.specs.List.{AllByRecursion, list_all};
 ghost use Rattle.of_ovs_lines.specs.PartialGroups.{with_new_bucket, bucket_fits as bucket_fits_so, closed_buckets, first_action, finished_group as group_in, group_or_refused, is_other_command as is_other_command_name, kind_in as kind_of, no_group, with_bucket_word as bucket_with_word, with_first_word, with_group_head, with_group_word, with_bucket_action, with_word_of_bucket};
 ghost use Rattle.of_ovs_lines.specs.PartialGroupViews.{view_partial_group};
-ghost use Rattle.std.specs.List.{AllByRecursion, list_all};
-ghost use Rattle.of_text.specs.Groups.{group_rows};
-ghost use Rattle.of_text.specs.Rows.{Fits};
+ghost use Rattle.of_text.specs.{Groups.group_rows, Rows.Fits, Views.view_bucket, Views.view_group};
 ghost use Rattle.of_ovs_words.specs.Stops.{IfRefused, Stops};
-ghost use Rattle.of_text.specs.Views.{view_bucket, view_group};
 
 use crate::finish::{actions_fit, take_actions};
 use crate::partial_flow::begins_actions;

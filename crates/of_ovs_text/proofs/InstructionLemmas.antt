@@ -1,20 +1,10 @@
 -- Actions that an instruction may not have, groups that a GROUP_MOD can say, and the lines of one.
 use Rattle.std.proofs.Common.{◌≡◌, Bool, true, false, List, [], ◌∷◌, length, refl, sym, ◌∙◌, ap}
-use Rattle.std.specs.Prelude.{map, nat_le, ◌&&◌}
-use Rattle.std.specs.List.{AllByRecursion, list_all}
-use Rattle.std.proofs.lemmas.List.{length-map}
-use Rattle.of_actions.specs.declared.action.Action.{Action}
-use Rattle.of_actions.specs.Supported.{are_supported}
-use Rattle.of_actions.proofs.ActionLists.{served_wider}
+use Rattle.std.{specs.Prelude.map, specs.Prelude.nat_le, specs.Prelude.◌&&◌, specs.List.AllByRecursion, specs.List.list_all, proofs.lemmas.List.length-map}
+use Rattle.of_actions.{specs.declared.action.Action.Action, specs.Supported.are_supported, proofs.ActionLists.served_wider}
 use Rattle.of_groups.specs.Buckets.{are_fit, is_fit}
-use Rattle.of_text.specs.declared.flow.FlowText.{FlowText}
-use Rattle.of_text.specs.declared.group.BucketText.{BucketText}
-use Rattle.of_text.specs.declared.group.GroupText.{GroupText}
-use Rattle.of_text.specs.Flows.{text_rows}
-use Rattle.of_text.specs.Groups.{bucket_of, group_rows}
-use Rattle.of_text.specs.Rows.{Fits}
-use Rattle.of_text.specs.Texts.{AreRows}
-use Rattle.of_text.specs.Views.{view_bucket, view_flows, view_group, view_groups}
+use Rattle.of_text.specs.{declared.flow.FlowText.FlowText, declared.group.BucketText.BucketText, declared.group.GroupText.GroupText, Flows.text_rows, Groups.bucket_of, Groups.group_rows, Rows.Fits}
+use Rattle.of_text.specs.{Texts.AreRows, Views.view_bucket, Views.view_flows, Views.view_group, Views.view_groups}
 use Rattle.of_import.proofs.RowLemmas.{parsed_rows}
 
 -- what no PACKET_OUT may have, no instruction may have

@@ -1,24 +1,15 @@
 -- A flow that is not refused without its instructions has a match.
 use Rattle.std.proofs.Common.{◌≡◌, ℕ, ◌<◌, ◌≤◌, eqb, Bool, true, List, [], ◌∷◌, ◌++◌, None, refl, sym, ◌∙◌, ap, subst, arith}
 use Rattle.std.specs.Prelude.{map, not, nat_lt, bit_and, slice_index_or, IsSome}
-use Rattle.std.specs.List.{AllByRecursion, flat_map}
-use Rattle.std.proofs.lemmas.Bool.{ltb-false}
-use Rattle.std.proofs.lemmas.Bool.Decides.{nat_tests}
-use Rattle.of_wire.specs.declared.code.Code.{Code}
-use Rattle.of_wire.specs.Refusals.{refusal}
+use Rattle.std.{specs.List.AllByRecursion, specs.List.flat_map, proofs.lemmas.Bool.ltb-false, proofs.lemmas.Bool.Decides.nat_tests}
+use Rattle.of_wire.specs.{declared.code.Code.Code, Refusals.refusal}
 use Rattle.of_oxm.specs.NormalForm.{IsMatch}
 use Rattle.of_lines.specs.declared.row.Row.TheVariants as rows
-use Rattle.of_text.specs.Rows.{Fits}
-use Rattle.of_text.specs.Order.{flow_standing, start_place}
-use Rattle.of_text.specs.Flows.{Flow, instruction_rows}
-use Rattle.of_text.specs.Refusals.{flow_refusals, instructions_refusals, match_refusals, table_refusals}
-use Rattle.of_text.specs.First.{flows_for}
-use Rattle.of_text.specs.Kept.{IsEntry}
+use Rattle.of_text.specs.{Rows.Fits, Order.flow_standing, Order.start_place, Flows.Flow, Flows.instruction_rows}
+use Rattle.of_text.specs.{Refusals.flow_refusals, Refusals.instructions_refusals, Refusals.match_refusals, Refusals.table_refusals, First.flows_for, Kept.IsEntry}
 use Rattle.of_text.specs.Configs.{Configuration, IsConfig, tables_of_flows}
-use Rattle.of_text.proofs.TextLemmas.{all_front, all_both, flow_both, some_front}
-use Rattle.of_text.proofs.ConfigLemmas.{IsWhole, rows_from, both_stand}
-use Rattle.of_text.proofs.EntryLemmas.{none_both, none_next, config_entries}
-use Rattle.of_text.proofs.FillLemmas.{table_at}
+use Rattle.of_text.proofs.{TextLemmas.all_front, TextLemmas.all_both, TextLemmas.flow_both, TextLemmas.some_front, ConfigLemmas.IsWhole, ConfigLemmas.rows_from, ConfigLemmas.both_stand}
+use Rattle.of_text.proofs.{EntryLemmas.none_both, EntryLemmas.none_next, EntryLemmas.config_entries, FillLemmas.table_at}
 use Rattle.of_ovs_lines.specs.Sound.{IsSoundFlow}
 use Rattle.of_ovs_text.specs.MessageFlows.{lone_refusal, without_instructions}
 

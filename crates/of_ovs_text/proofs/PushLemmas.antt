@@ -1,12 +1,7 @@
 -- Words behind words.
 use Rattle.std.proofs.Common.{◌≡◌, ℕ, ◌<◌, List, [], ◌++◌, length, Result, Ok, Err, sym, ap, ◌∙◌, append_assoc}
-use Rattle.std.proofs.lemmas.List.{append-nil}
-use Rattle.std.specs.Prelude.{OnOk, if◌then◌else◌}
-use Rattle.std.specs.Result.{is_ok}
-use Rattle.std.specs.List.{flat_map}
-use Rattle.of_text.specs.Lines.{before, lines_of}
-use Rattle.of_text.specs.Lines.{behind as behind_end}
-use Rattle.of_text.proofs.TextLemmas.{first_line}
+use Rattle.std.{specs.Prelude.OnOk, specs.Prelude.if◌then◌else◌, specs.Result.is_ok, specs.List.flat_map, proofs.lemmas.List.append-nil}
+use Rattle.of_text.{specs.Lines.before, specs.Lines.lines_of, specs.Lines.behind as behind_end, proofs.TextLemmas.first_line}
 
 -- one part more behind the words so far
 pub behind : (out words part mid new : List ℕ) → mid ≡ out ++ words → new ≡ mid ++ part → new ≡ out ++ (words ++ part)

@@ -1,23 +1,11 @@
 -- What import makes of lines is one text, and the lines have no other.
 use Rattle.std.proofs.Common.{◌≡◌, ◌∙◌, ◌+◌, ℕ, Bool, true, false, List, [], ◌∷◌, ◌++◌, length, map, refl, sym, ap, arith, subst}
-use Rattle.std.specs.Prelude.{◌==◌, ◌&&◌}
-use Rattle.std.specs.Str.{bytes_eq}
-use Rattle.std.proofs.lemmas.Bool.Decides.{Decides-eqb}
-use Rattle.std.proofs.lemmas.Slice.Eq.{bytes_eq-Decides}
-use Rattle.of_text.specs.Configs.{Configuration, all_flows, config_text, tables_of_flows}
-use Rattle.of_text.specs.Groups.{TextGroup}
-use Rattle.of_text.specs.Lines.{lines_of}
-use Rattle.of_text.specs.Texts.{groups_and_flows_text}
-use Rattle.of_import.specs.declared.kept.LineRefusal.{LineRefusal}
-use Rattle.of_import.specs.declared.parsed_lines.LineFaults.{LineFaults}
-use Rattle.of_import.specs.Counters.{with_counters}
+use Rattle.std.{specs.Prelude.◌==◌, specs.Prelude.◌&&◌, specs.Str.bytes_eq, proofs.lemmas.Bool.Decides.Decides-eqb, proofs.lemmas.Slice.Eq.bytes_eq-Decides}
+use Rattle.of_text.specs.{Configs.Configuration, Configs.all_flows, Configs.config_text, Configs.tables_of_flows, Groups.TextGroup, Lines.lines_of, Texts.groups_and_flows_text}
 use Rattle.of_import.specs.Imports.{IsConfigOf, IsImportText, IsTextOf, kept_in, notes_for, parsed}
-use Rattle.of_import.specs.Kept.{Kept, flows_in, groups_in}
-use Rattle.of_import.specs.KeptViews.{view_refusal}
-use Rattle.of_import.specs.ParsedLines.{FlowAt}
-use Rattle.of_import.specs.ParsedLinesViews.{view_faults}
-use Rattle.of_ovs_text.specs.Lengths.{with_used_lengths}
-use Rattle.of_ovs_text.specs.Lines.{IsReadAgain, whole_file}
+use Rattle.of_import.specs.{declared.kept.LineRefusal.LineRefusal, declared.parsed_lines.LineFaults.LineFaults, Counters.with_counters, Kept.Kept, Kept.flows_in, Kept.groups_in}
+use Rattle.of_import.specs.{KeptViews.view_refusal, ParsedLines.FlowAt, ParsedLinesViews.view_faults}
+use Rattle.of_ovs_text.specs.{Lengths.with_used_lengths, Lines.IsReadAgain, Lines.whole_file}
 
 text_of_config : (gs : List (ℕ × TextGroup)) (fs : List FlowAt) (c : Configuration) → IsConfigOf gs fs c → config_text c ≡ groups_and_flows_text (groups_in gs) (all_flows (tables_of_flows (flows_in fs)))
 text_of_config gs fs c i = rw (i.groups, i.tables) refl

@@ -1,9 +1,7 @@
 -- Whether words name a table, one word after the other.
 use Rattle.std.proofs.Common.{◌≡◌, ℕ, ◌<◌, Bool, true, false, List, [], length, refl, sym, ◌∙◌, ap}
-use Rattle.std.specs.Prelude.{codes}
-use Rattle.std.specs.Str.{bytes_eq}
-use Rattle.of_ovs_words.specs.Words.{after_word, word_in, word_name, words_from}
-use Rattle.of_ovs_words.proofs.WordLemmas.{first_word}
+use Rattle.std.specs.{Prelude.codes, Str.bytes_eq}
+use Rattle.of_ovs_words.{specs.Words.after_word, specs.Words.word_in, specs.Words.word_name, specs.Words.words_from, proofs.WordLemmas.first_word}
 use Rattle.of_ovs_text.specs.MessageFlows.{has_table_word}
 
 -- of the first word

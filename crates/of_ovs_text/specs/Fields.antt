@@ -2,17 +2,12 @@
 use Rattle.std.specs.Prelude.{ℕ, ◌-◌, nat_le, Bool, true, false, not, ◌&&◌, List, [], ◌∷◌, ◌++◌, codes, decimal, find, Option, Some, None, if◌then◌else◌}
 use Rattle.std.specs.List.{flat_map}
 use Rattle.of_wire.specs.Parts.{keyword}
-use Rattle.of_layers.specs.declared.field.Field.{Field}
 use Rattle.of_layers.specs.declared.field.Field.TheVariants.{InPort, EthType, VlanVid, VlanPcp, IpDscp, IpProto}
-use Rattle.of_layers.specs.declared.field.Prerequisite.{Prerequisite}
-use Rattle.of_layers.specs.declared.field.Prerequisite.TheVariants.{Nothing}
-use Rattle.of_oxm.specs.Prerequisites.{is_met}
-use Rattle.of_oxm.specs.declared.match_field.MatchField.{MatchField}
-use Rattle.of_values.specs.Numbers.{hexadecimal}
-use Rattle.of_values.specs.Values.{value_words}
+use Rattle.of_layers.specs.{declared.field.Field.Field, declared.field.Prerequisite.Prerequisite, declared.field.Prerequisite.TheVariants.Nothing}
+use Rattle.of_oxm.specs.{Prerequisites.is_met, declared.match_field.MatchField.MatchField}
+use Rattle.of_values.specs.{Numbers.hexadecimal, Values.value_words}
 use Rattle.of_ovs_words.specs.FieldWords.{text_for}
-use Rattle.of_ovs_text.specs.declared.fields.Protocol.{Protocol}
-use Rattle.of_ovs_text.specs.declared.fields.TheConstants.{PROTOCOLS}
+use Rattle.of_ovs_text.specs.{declared.fields.Protocol.Protocol, declared.fields.TheConstants.PROTOCOLS}
 
 -- ---- ETH_TYPE and IP_PROTO: a word says both, such as `tcp`
 

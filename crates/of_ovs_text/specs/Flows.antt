@@ -3,9 +3,7 @@ use Rattle.std.specs.Prelude.{ℕ, ◌==◌, bit_and, List, [], ◌∷◌, ◌++
 use Rattle.of_lines.specs.declared.row.FlowHead.{FlowHead}
 use Rattle.of_text.specs.Flows.{Flow}
 use Rattle.of_values.specs.Numbers.{hexadecimal}
-use Rattle.of_ovs_text.specs.Parts.{number_part, unless_default}
-use Rattle.of_ovs_text.specs.Fields.{match_in_words}
-use Rattle.of_ovs_text.specs.Actions.{instructions_in_words}
+use Rattle.of_ovs_text.specs.{Parts.number_part, Parts.unless_default, Fields.match_in_words, Actions.instructions_in_words}
 
 abbrev pub cookie_part : ℕ → List ℕ
 cookie_part cookie = if cookie == 0 then [] else codes "cookie=" ++ hexadecimal 1 cookie ++ codes ","

@@ -5,8 +5,7 @@ use Rattle.of_wire.specs.declared.limits.TheConstants.{OFPG_ANY, OFPP_ANY}
 use Rattle.of_groups.specs.declared.group.GroupKind.{GroupKind}
 use Rattle.of_groups.specs.declared.group.GroupKind.TheVariants.{All, Indirect, FastFailover}
 use Rattle.of_text.specs.Groups.{TextBucket, TextGroup}
-use Rattle.of_ovs_text.specs.Parts.{unless_default}
-use Rattle.of_ovs_text.specs.Actions.{actions_in_words_of}
+use Rattle.of_ovs_text.specs.{Parts.unless_default, Actions.actions_in_words_of}
 
 abbrev pub kind_in_words : GroupKind → List ℕ
 kind_in_words All = codes "all"

@@ -1,7 +1,6 @@
 -- THE max_len OF OUTPUT IN FLOW TEXT: it has a meaning only for CONTROLLER (OpenFlow 1.3.5, 7.2.5), and `ovs-ofctl` has no words for that of another port.
 use Rattle.std.specs.Prelude.{ℕ, ◌&&◌, not, Bool, List, [], ◌∷◌, ◌++◌, codes, if◌then◌else◌}
-use Rattle.std.specs.List.{flat_map}
-use Rattle.std.specs.Str.{bytes_eq}
+use Rattle.std.specs.{List.flat_map, Str.bytes_eq}
 use Rattle.of_text.specs.Lines.{before, behind, ended, lines_of}
 
 -- a line `output PORT MAX`

@@ -1,14 +1,10 @@
 -- THE LINES OF A CONFIGURATION, and whether `import` reads them back.
 use Rattle.std.specs.Prelude.{◌≡◌, ℕ, zero, suc, Bool, true, false, List, [], ◌++◌, slice_index_or, Option, Some, None}
-use Rattle.std.specs.List.{flat_map}
-use Rattle.std.specs.Global.{Vec}
-use Rattle.of_text.specs.Configs.{Configuration, config_text}
-use Rattle.of_text.specs.Lines.{lines_of}
+use Rattle.std.specs.{List.flat_map, Global.Vec}
+use Rattle.of_text.specs.{Configs.Configuration, Configs.config_text, Lines.lines_of}
 use Rattle.of_ovs_lines.specs.declared.mode.Mode.{Mode}
 use Rattle.of_import.specs.Imports.{IsImportText}
-use Rattle.of_ovs_text.specs.Flows.{flow_line}
-use Rattle.of_ovs_text.specs.Groups.{group_line}
-use Rattle.of_ovs_text.specs.Lengths.{with_used_lengths}
+use Rattle.of_ovs_text.specs.{Flows.flow_line, Groups.group_line, Lengths.with_used_lengths}
 
 -- the flows of the first k tables
 unfoldable pub flow_lines_below : ℕ → Configuration → List ℕ

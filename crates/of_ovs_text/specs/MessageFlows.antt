@@ -1,24 +1,18 @@
 -- FLOW_MOD IN WORDS (OpenFlow 1.3.5, 7.3.4.1): what `ovs-ofctl` reads as a flow, behind a command.
 use Rattle.std.specs.Prelude.{ℕ, ◌&&◌, not, Bool, List, [], ◌++◌, codes, Option, Some, None, Ok, Err, false, true, if◌then◌else◌}
-use Rattle.std.specs.List.{list_any}
-use Rattle.std.specs.Str.{bytes_eq}
-use Rattle.of_wire.specs.declared.code.Code.{Code}
-use Rattle.of_wire.specs.declared.limits.TheConstants.{OFPTT_ALL}
-use Rattle.of_wire.specs.Refusals.{first_of}
+use Rattle.std.specs.{List.list_any, Str.bytes_eq}
+use Rattle.of_wire.specs.{declared.code.Code.Code, declared.limits.TheConstants.OFPTT_ALL, Refusals.first_of}
 use Rattle.of_actions.specs.InstructionLists.{are_kept}
-use Rattle.of_text.specs.Flows.{Flow}
-use Rattle.of_text.specs.First.{refusals_behind}
-use Rattle.of_messages.specs.declared.message.FlowMod.{FlowMod}
-use Rattle.of_messages.specs.declared.message.FlowModCommand.{FlowModCommand}
+use Rattle.of_text.specs.{Flows.Flow, First.refusals_behind}
+use Rattle.of_messages.specs.{declared.message.FlowMod.FlowMod, declared.message.FlowModCommand.FlowModCommand}
 use Rattle.of_messages.specs.declared.message.FlowModCommand.TheVariants.{Add, Modify, Delete}
-use Rattle.of_messages.specs.Messages.{is_delete}
-use Rattle.of_messages.specs.Written.{flow_mod_bytes}
+use Rattle.of_messages.specs.{Messages.is_delete, Written.flow_mod_bytes}
 use Rattle.of_build.specs.Listing.{add_of}
 use Rattle.of_ovs_words.specs.Words.{word_name, words_from}
 use Rattle.of_ovs_lines.specs.LineContents as contents
 use Rattle.of_ovs_lines.specs.LineContents.{LineContent, parsed_line}
-use Rattle.of_ovs_text.specs.Cutting.{behind_command, leading_word}
 use Rattle.of_ovs_text.specs.Reasons.{BytesOrReason, Faults, Refused, reason_of_refusal, reason_of_word}
+use Rattle.of_ovs_text.specs.Cutting.{behind_command, leading_word}
 
 -- what a line says, none of whose words may be left out
 abbrev pub content_of_line : List ℕ → LineContent

@@ -1,27 +1,17 @@
 -- GROUP_MOD IN WORDS (OpenFlow 1.3.5, 7.3.4.2): what `ovs-ofctl` reads as a group, behind a command.
 use Rattle.std.specs.Prelude.{ℕ, ◌^◌, List, [], ◌∷◌, ◌++◌, codes, Option, Some, None, Ok, Err, if◌then◌else◌}
-use Rattle.std.specs.Option.{option_map}
-use Rattle.std.specs.Str.{bytes_eq}
-use Rattle.of_wire.specs.declared.code.Code.{Code}
-use Rattle.of_wire.specs.declared.limits.TheConstants.{OFPG_ALL}
-use Rattle.of_formats.specs.declared.messages.TheConstants.{GROUP_MOD}
-use Rattle.of_formats.specs.Structs.{written}
+use Rattle.std.specs.{Option.option_map, Str.bytes_eq}
+use Rattle.of_wire.specs.{declared.code.Code.Code, declared.limits.TheConstants.OFPG_ALL}
+use Rattle.of_formats.specs.{declared.messages.TheConstants.GROUP_MOD, Structs.written}
 use Rattle.of_formats.specs.Tables as tables
-use Rattle.of_groups.specs.Buckets.{are_fit}
-use Rattle.of_groups.specs.Groups.{kind_number}
-use Rattle.of_text.specs.First.{first_refusal}
-use Rattle.of_text.specs.Groups.{TextGroup, buckets_of}
-use Rattle.of_messages.specs.CanonicalGroups.{canonical_buckets}
-use Rattle.of_messages.specs.Written.{message}
-use Rattle.of_ovs_words.specs.Numbers.{number_in}
-use Rattle.of_ovs_words.specs.Words.{word_name, word_value}
+use Rattle.of_groups.specs.{Buckets.are_fit, Groups.kind_number}
+use Rattle.of_text.specs.{First.first_refusal, Groups.TextGroup, Groups.buckets_of}
+use Rattle.of_messages.specs.{CanonicalGroups.canonical_buckets, Written.message}
+use Rattle.of_ovs_words.specs.{Numbers.number_in, Words.word_name, Words.word_value}
 use Rattle.of_ovs_lines.specs.LineContents as contents
 use Rattle.of_ovs_lines.specs.LineContents.{LineContent}
-use Rattle.of_ovs_text.specs.declared.group.Command.{Command}
-use Rattle.of_ovs_text.specs.declared.group.Command.TheVariants.{Add, Modify, Delete}
-use Rattle.of_ovs_text.specs.Cutting.{behind_command, leading_word}
-use Rattle.of_ovs_text.specs.MessageFlows.{content_of_line}
-use Rattle.of_ovs_text.specs.Reasons.{BytesOrReason, Faults, reason_of_refusal, reason_of_word}
+use Rattle.of_ovs_text.specs.{declared.group.Command.Command, declared.group.Command.TheVariants.Add, declared.group.Command.TheVariants.Modify, declared.group.Command.TheVariants.Delete}
+use Rattle.of_ovs_text.specs.{Cutting.behind_command, Cutting.leading_word, MessageFlows.content_of_line, Reasons.BytesOrReason, Reasons.Faults, Reasons.reason_of_refusal, Reasons.reason_of_word}
 
 -- OFPGC_*
 unfoldable pub group_command_named : List ℕ → Option Command

@@ -2,14 +2,9 @@
 use Rattle.std.specs.Prelude.{ℕ, List, codes, Option, Some, None, Result, Ok, Err, if◌then◌else◌}
 use Rattle.std.specs.Str.{bytes_eq}
 use Rattle.of_wire.specs.declared.code.Code.{Code}
-use Rattle.of_messages.specs.declared.message.Message.{Message}
-use Rattle.of_messages.specs.Messages.{message_of}
-use Rattle.of_ovs_text.specs.Cutting.{after_leading, leading_word}
-use Rattle.of_ovs_text.specs.Short.{bare_words_said, bare_type, config_words_said, role_words_said}
-use Rattle.of_ovs_text.specs.MessageFlows.{flow_words_said}
-use Rattle.of_ovs_text.specs.MessageGroups.{group_words_said}
-use Rattle.of_ovs_text.specs.PacketOuts.{packet_words_said}
-use Rattle.of_ovs_text.specs.Reasons.{BytesOrReason, Kind, Refused}
+use Rattle.of_messages.specs.{declared.message.Message.Message, Messages.message_of}
+use Rattle.of_ovs_text.specs.{Cutting.after_leading, Cutting.leading_word, Short.bare_words_said, Short.bare_type, Short.config_words_said, Short.role_words_said, MessageFlows.flow_words_said}
+use Rattle.of_ovs_text.specs.{MessageGroups.group_words_said, PacketOuts.packet_words_said, Reasons.BytesOrReason, Reasons.Kind, Reasons.Refused}
 
 -- a kind with content
 abbrev pub said_of_kind : ℕ → List ℕ → List ℕ → BytesOrReason

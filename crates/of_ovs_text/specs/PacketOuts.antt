@@ -3,24 +3,19 @@ use Rattle.std.specs.Prelude.{ℕ, ◌^◌, nat_lt, true, List, [], ◌∷◌, �
 use Rattle.std.specs.Str.{bytes_eq}
 use Rattle.hex.specs.Hex.{decode_of}
 use Rattle.of_wire.specs.declared.limits.TheConstants.{OFP_NO_BUFFER}
-use Rattle.of_formats.specs.declared.messages.TheConstants.{PACKET_OUT}
-use Rattle.of_formats.specs.Structs.{written}
+use Rattle.of_formats.specs.{declared.messages.TheConstants.PACKET_OUT, Structs.written}
 use Rattle.of_formats.specs.Tables as tables
-use Rattle.of_layers.specs.declared.field.Field.{Field}
-use Rattle.of_layers.specs.declared.field.Field.TheVariants.{InPort}
+use Rattle.of_layers.specs.{declared.field.Field.Field, declared.field.Field.TheVariants.InPort}
 use Rattle.of_oxm.specs.declared.match_field.MatchField.{MatchField}
-use Rattle.of_actions.specs.declared.action.Action.{Action}
-use Rattle.of_actions.specs.declared.instruction.Instruction.{Instruction}
-use Rattle.of_actions.specs.declared.instruction.Instruction.TheVariants.{Apply}
-use Rattle.of_actions.specs.CanonicalActions.{canonical_actions}
+use Rattle.of_actions.specs.{declared.action.Action.Action, declared.instruction.Instruction.Instruction, declared.instruction.Instruction.TheVariants.Apply, CanonicalActions.canonical_actions}
 use Rattle.of_actions.specs.Supported.{are_supported}
 use Rattle.of_text.specs.Flows.{Flow}
 use Rattle.of_messages.specs.Written.{message}
 use Rattle.of_ovs_words.specs.Words.{word_name, word_value, words_from}
 use Rattle.of_ovs_lines.specs.LineContents as contents
 use Rattle.of_ovs_lines.specs.LineContents.{LineContent, with_words}
-use Rattle.of_ovs_text.specs.MessageFlows.{content_of_line, lone_refusal}
 use Rattle.of_ovs_text.specs.Reasons.{BytesOrReason, Faults, Missing, Word, reason_of_refusal}
+use Rattle.of_ovs_text.specs.MessageFlows.{content_of_line, lone_refusal}
 
 -- the hex digits of the frame, and the other words, with a comma behind each
 pub record PacketWords : Type 0 where

@@ -1,8 +1,7 @@
 -- WHY WORDS SAY NO MESSAGE, and what a reader of words returned.
 use Rattle.std.specs.Prelude.{◌≡◌, ℕ, ◌==◌, List, length, Option, Some, None, map, Result, Ok, Err, if◌then◌else◌}
 use Rattle.of_wire.specs.declared.code.Code.{Code}
-use Rattle.of_ovs_lines.specs.PartialFlows.{Refusal}
-use Rattle.of_ovs_lines.specs.PartialFlowViews.{view_word_fault}
+use Rattle.of_ovs_lines.specs.{PartialFlows.Refusal, PartialFlowViews.view_word_fault}
 use Rattle.of_ovs_text.specs.declared.no_message.NoMessage.{NoMessage}
 use Rattle.of_ovs_text.specs.declared.no_message.NoMessage.TheVariants as errors
 

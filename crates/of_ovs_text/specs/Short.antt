@@ -5,10 +5,8 @@ use Rattle.of_formats.specs.declared.messages.TheConstants.{BARRIER_REQUEST, ECH
 use Rattle.of_formats.specs.Structs.{written}
 use Rattle.of_formats.specs.Tables as tables
 use Rattle.of_messages.specs.Written.{message}
-use Rattle.of_ovs_words.specs.Numbers.{number_in}
-use Rattle.of_ovs_words.specs.Words.{word_name, word_value}
-use Rattle.of_ovs_text.specs.Cutting.{after_leading, leading_word}
-use Rattle.of_ovs_text.specs.Reasons.{BytesOrReason, reason_of_word}
+use Rattle.of_ovs_words.specs.{Numbers.number_in, Words.word_name, Words.word_value}
+use Rattle.of_ovs_text.specs.{Cutting.after_leading, Cutting.leading_word, Reasons.BytesOrReason, Reasons.reason_of_word}
 
 -- the type of the messages of a kind that have no content (OpenFlow 1.3.5, 7.5.1, 7.5.2, 7.3.1, 7.3.2 and 7.3.8)
 unfoldable pub bare_type : List ℕ → Option ℕ

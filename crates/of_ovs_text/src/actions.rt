@@ -1,6 +1,5 @@
 //! Actions and instructions in the words of `ovs-ofctl` (ovs-actions(7)).
-ghost use Rattle.std.specs.Prelude.{◌≡◌, ◌++◌, OnOk, map};
-ghost use Rattle.std.specs.List.{flat_map};
+ghost use Rattle.std.specs.{Prelude.◌≡◌, Prelude.◌++◌, Prelude.OnOk, Prelude.map, List.flat_map};
 ghost use Rattle.of_text.specs.Views.{view_instruction};
 ghost use Rattle.of_ovs_text.specs.Actions.{action_in_words, actions_in_words_of, further_action_in_words, further_instruction_in_words, instruction_in_words, instructions_in_words, metadata_in_words, output_in_words, set_field_in_words, to_port_in_words, write_in_words};
 

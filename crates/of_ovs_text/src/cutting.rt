@@ -1,7 +1,6 @@
 //! Words, one after the other.
 ghost use Rattle.std.specs.Prelude.{◌≡◌, Err};
-ghost use Rattle.of_ovs_text.specs.Cutting.{after_leading, leading_word};
-ghost use Rattle.of_ovs_text.specs.Reasons.{SaysOrFails, reason_of_word};
+ghost use Rattle.of_ovs_text.specs.{Cutting.after_leading, Cutting.leading_word, Reasons.SaysOrFails, Reasons.reason_of_word};
 
 use crate::no_message::NoMessage;
 use of_ovs_lines::trimmed;

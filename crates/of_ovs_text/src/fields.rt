@@ -1,6 +1,5 @@
 //! Match fields in the words of `ovs-ofctl` (ovs-fields(7)).
-ghost use Rattle.std.specs.Prelude.{◌≡◌, ◌++◌, OnOk};
-ghost use Rattle.std.specs.List.{flat_map};
+ghost use Rattle.std.specs.{Prelude.◌≡◌, Prelude.◌++◌, Prelude.OnOk, List.flat_map};
 ghost use Rattle.of_ovs_text.specs.Fields.{chosen_field_words, comes_first as comes_first_of_all, is_chosen as is_chosen_field, keyword_of, mask_behind_slash, match_in_words, ethertype_words, new_value_words, ovs_field_words, protocol_in_words, says_transport as says_such_transport, tag_words, ip_protocol_words};
 
 use crate::parts::push_named;

@@ -1,10 +1,8 @@
 //! FLOW_MOD in words.
 ghost use Rattle.std.specs.Prelude.{◌≡◌, [], true, false, None, IfOk, IfErr, IfSome, IfNone, OnOk, map};
-ghost use Rattle.of_actions.specs.InstructionLists.{are_kept, is_served_body};
-ghost use Rattle.of_actions.specs.Supported.{are_supported};
+ghost use Rattle.of_actions.specs.{InstructionLists.are_kept, InstructionLists.is_served_body, Supported.are_supported};
 ghost use Rattle.of_text.specs.Views.{view, view_instruction};
-ghost use Rattle.of_ovs_lines.specs.LineContentViews.{view_line_content};
-ghost use Rattle.of_ovs_lines.specs.Sound.{IsSoundContent, IsSoundFlow};
+ghost use Rattle.of_ovs_lines.specs.{LineContentViews.view_line_content, Sound.IsSoundContent, Sound.IsSoundFlow};
 ghost use Rattle.of_ovs_text.specs.MessageFlows.{flow_command, flow_command_named, flow_content_said, flow_mod_line, commanded_flow_mod, flow_mod_said, flow_words_said, has_table_word, lone_refusal, table_said, without_instructions};
 ghost use Rattle.of_ovs_text.specs.Reasons.{FailsBy, SaysOrFails, error_of_refusal};
 

@@ -1,6 +1,5 @@
 //! Flows as lines that `ovs-ofctl add-flows` reads (ovs-ofctl(8)).
-ghost use Rattle.std.specs.Prelude.{◌≡◌, ◌++◌, OnOk};
-ghost use Rattle.std.specs.List.{flat_map};
+ghost use Rattle.std.specs.{Prelude.◌≡◌, Prelude.◌++◌, Prelude.OnOk, List.flat_map};
 ghost use Rattle.of_text.specs.Views.{view, view_flows};
 ghost use Rattle.of_ovs_text.specs.Flows.{cookie_part, flag_part, flags_part, flow_head_words, flow_line};
 

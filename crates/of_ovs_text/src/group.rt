@@ -1,16 +1,11 @@
 //! GROUP_MOD in words.
-ghost use Rattle.std.specs.Prelude.{◌≡◌, false, IfOk};
-ghost use Rattle.std.specs.List.{AllByRecursion, list_all};
+ghost use Rattle.std.specs.{Prelude.◌≡◌, Prelude.false, Prelude.IfOk, List.AllByRecursion, List.list_all};
 ghost use Rattle.of_actions.specs.Supported.{are_supported as are_supported_so};
 ghost use Rattle.of_groups.specs.Buckets.{are_fit};
-ghost use Rattle.of_text.specs.Rows.{Fits};
-ghost use Rattle.of_text.specs.Groups.{buckets_of, group_rows};
-ghost use Rattle.of_text.specs.Views.{view_group};
-ghost use Rattle.of_ovs_lines.specs.LineContentViews.{view_line_content};
-ghost use Rattle.of_ovs_lines.specs.Sound.{IsSoundContent};
-ghost use Rattle.of_ovs_text.specs.MessageFlows.{content_of_line};
+ghost use Rattle.of_text.specs.{Rows.Fits, Groups.buckets_of, Groups.group_rows, Views.view_group};
+ghost use Rattle.of_ovs_lines.specs.{LineContentViews.view_line_content, Sound.IsSoundContent};
 ghost use Rattle.of_ovs_text.specs.MessageGroups.{delete_said, group_command, group_command_named, group_content_said, group_number_in, group_mod_bytes, group_mod_said, group_refusal, group_words_said};
-ghost use Rattle.of_ovs_text.specs.Reasons.{SaysOrFails, error_of_refusal};
+ghost use Rattle.of_ovs_text.specs.{MessageFlows.content_of_line, Reasons.SaysOrFails, Reasons.error_of_refusal};
 
 use crate::cutting::{cut_first, refuse_word};
 use crate::flow::{MODE, instructions_of};

@@ -1,6 +1,5 @@
 //! Groups as lines that `ovs-ofctl add-groups` reads (ovs-ofctl(8)).
-ghost use Rattle.std.specs.Prelude.{◌≡◌, ◌++◌, OnOk, map};
-ghost use Rattle.std.specs.List.{flat_map};
+ghost use Rattle.std.specs.{Prelude.◌≡◌, Prelude.◌++◌, Prelude.OnOk, Prelude.map, List.flat_map};
 ghost use Rattle.of_text.specs.Views.{view_bucket, view_group, view_groups};
 ghost use Rattle.of_ovs_text.specs.Groups.{bucket_in_words, group_line, kind_in_words};
 

@@ -2,8 +2,7 @@
 ghost use Rattle.std.specs.Prelude.{◌≡◌, ◌++◌, ◌==◌, ◌&&◌, IfOk, OnOk};
 ghost use Rattle.std.specs.Str.{bytes_eq};
 ghost use Rattle.of_text.specs.Configs.{config_text};
-ghost use Rattle.of_ovs_text.specs.Lengths.{with_used_lengths as with_used_lengths_of};
-ghost use Rattle.of_ovs_text.specs.Lines.{IsOvsText, IsReadAgain, flow_lines_below, ovs_text_of};
+ghost use Rattle.of_ovs_text.specs.{Lengths.with_used_lengths as with_used_lengths_of, Lines.IsOvsText, Lines.IsReadAgain, Lines.flow_lines_below, Lines.ovs_text_of};
 
 use crate::flows::push_flow_lines;
 use crate::groups::push_group_lines;

@@ -1,6 +1,5 @@
 //! The message that words say.
-ghost use Rattle.of_ovs_text.specs.Messages.{bytes_said, message_in_words};
-ghost use Rattle.of_ovs_text.specs.Reasons.{SaysOrFails};
+ghost use Rattle.of_ovs_text.specs.{Messages.bytes_said, Messages.message_in_words, Reasons.SaysOrFails};
 
 use crate::cutting::cut_first;
 use crate::flow::flow_message;

@@ -5,8 +5,7 @@ ghost use Rattle.hex.specs.Hex.{decode_of};
 ghost use Rattle.of_text.specs.Views.{view, view_instruction};
 ghost use Rattle.of_ovs_lines.specs.LineContentViews.{view_line_content};
 ghost use Rattle.of_ovs_text.specs.PacketOuts.{actions_by, applied_actions, ingress_by, lone_ingress, packet_by, packet_content_said, packet_of_flow, packet_out_bytes, packet_words_said, packet_out_words, with_packet_word};
-ghost use Rattle.of_ovs_text.specs.PacketViews.{view_packet_words};
-ghost use Rattle.of_ovs_text.specs.Reasons.{SaysOrFails};
+ghost use Rattle.of_ovs_text.specs.{PacketViews.view_packet_words, Reasons.SaysOrFails};
 
 use crate::flow::{MODE, copy_of, refusal_of};
 use crate::no_message::NoMessage;

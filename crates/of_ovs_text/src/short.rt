@@ -1,7 +1,6 @@
 //! Messages without lists: those without content, ROLE_REQUEST and SET_CONFIG.
 ghost use Rattle.std.specs.Prelude.{◌≡◌, ◌∷◌, [], IfOk};
-ghost use Rattle.of_formats.specs.Structs.{written};
-ghost use Rattle.of_formats.specs.Tables.{role as role_struct, switch_config};
+ghost use Rattle.of_formats.specs.{Structs.written, Tables.role as role_struct, Tables.switch_config};
 ghost use Rattle.of_messages.specs.Written.{message};
 ghost use Rattle.of_ovs_text.specs.Short.{bare_type, role_named, role_words_said, generation_in, bare_words_said, config_words_said};
 ghost use Rattle.of_ovs_text.specs.Reasons.{SaysOrFails};

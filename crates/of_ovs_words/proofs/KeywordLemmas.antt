@@ -1,10 +1,7 @@
 -- The word in an array, and the bytes that it begins and ends with.
 use Rattle.std.proofs.Common.{◌≡◌, ℕ, ◌<◌, ◌≤◌, eqb, Bool, true, List, Option, Some, None, length, take, map, get_or, refl, sym, ap, ◌∙◌, arith}
-use Rattle.std.proofs.lemmas.List.{length-map, length-take, get_or-map, get_or-take}
-use Rattle.std.proofs.lemmas.Slice.Eq.{bytes_eq-Decides}
-use Rattle.std.proofs.lemmas.Bool.{eq-eqb}
-use Rattle.std.specs.Char.{to_ascii_lowercase}
-use Rattle.std.specs.Str.{str_eq_ignore_ascii_case}
+use Rattle.std.specs.{Char.to_ascii_lowercase, Str.str_eq_ignore_ascii_case}
+use Rattle.std.proofs.{lemmas.List.length-map, lemmas.List.length-take, lemmas.List.get_or-map, lemmas.List.get_or-take, lemmas.Slice.Eq.bytes_eq-Decides, lemmas.Bool.eq-eqb}
 use Rattle.of_wire.specs.Parts.{before_place, keyword}
 
 -- the array goes on as far as its word

@@ -1,8 +1,7 @@
 -- What stands between colons, one piece after the other.
 use Rattle.std.proofs.Common.{◌≡◌, ℕ, suc, ◌+◌, ◌<◌, eqb, Bool, true, false, not, cond, List, [], ◌∷◌, length, Some, None, refl, ap, ◌∙◌, arith}
 use Rattle.std.specs.Prelude.{◌&&◌, filter}
-use Rattle.of_lines.specs.Lines.{prepended, before, behind}
-use Rattle.of_lines.specs.Reading.{◌>>=◌}
+use Rattle.of_lines.specs.{Lines.prepended, Lines.before, Lines.behind, Reading.◌>>=◌}
 use Rattle.of_ovs_words.specs.Ipv6.{pieces, with_piece, with_groups, group_count}
 
 pub first_piece : (text : List ℕ) → 0 < length text → pieces text ≡ before 58 text ∷ pieces (behind 58 text)

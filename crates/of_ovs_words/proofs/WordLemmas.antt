@@ -1,13 +1,10 @@
 -- Words, one after the other.
 use Rattle.std.proofs.Common.{◌≡◌, ℕ, ◌<◌, eqb, sym, Bool, true, false, cond, List, [], ◌∷◌, length, Result, Ok, Err, refl, ap, ◌∙◌, arith}
 use Rattle.std.proofs.lemmas.Bool.{ne_eqb}
-use Rattle.of_ovs_words.specs.declared.why.Why.{Why}
-use Rattle.of_ovs_words.specs.declared.stop.Stop.{Stop}
-use Rattle.of_ovs_words.specs.declared.stop.Stop.TheVariants.{NoMemory, Refused}
-use Rattle.of_ovs_words.specs.Stops.{Stops}
-use Rattle.of_lines.specs.Lines.{prepended}
 use Rattle.of_ovs_words.specs.Words.{words_from, word_in, after_word, ends, depth_after}
+use Rattle.of_ovs_words.specs.{declared.why.Why.Why, declared.stop.Stop.Stop, declared.stop.Stop.TheVariants.NoMemory, declared.stop.Stop.TheVariants.Refused, Stops.Stops}
 use Rattle.of_ovs_words.specs.Outcomes.{◌>>=◌, through_words}
+use Rattle.of_lines.specs.Lines.{prepended}
 
 -- the first word, and those after it
 word_from : (depth : ℕ) (text : List ℕ) → 0 < length text → words_from depth text ≡ word_in depth text ∷ words_from 0 (after_word depth text)

@@ -1,32 +1,19 @@
 -- WHAT A WORD SAYS AS AN ACTION (ovs-actions(7)), beside the settings of the flow's match.
 use Rattle.std.specs.Prelude.{ℕ, ◌+◌, ◌-◌, ◌^◌, ◌==◌, ◌&&◌, ◌||◌, nat_le, min, not, Bool, true, false, List, [], ◌∷◌, ◌++◌, codes, length, drop, Option, Some, None, Result, Ok, Err, if◌then◌else◌}
-use Rattle.std.specs.Option.{option_map_or}
-use Rattle.std.specs.List.{fold}
-use Rattle.std.specs.Str.{bytes_eq}
-use Rattle.of_layers.specs.declared.field.Field.{Field}
-use Rattle.of_layers.specs.declared.field.Field.TheVariants.{VlanVid}
-use Rattle.of_layers.specs.Reading.{is_tag_type}
+use Rattle.std.specs.{Option.option_map_or, List.fold, Str.bytes_eq}
+use Rattle.of_layers.specs.{declared.field.Field.Field, declared.field.Field.TheVariants.VlanVid, Reading.is_tag_type}
 use Rattle.of_oxm.specs.declared.match_field.MatchField.{MatchField}
 use Rattle.of_actions.specs.declared.action.Action.{Action}
 use Rattle.of_actions.specs.declared.action.Action.TheVariants as actions
-use Rattle.of_ovs_words.specs.declared.why.Why.{Why}
-use Rattle.of_ovs_words.specs.declared.why.Why.TheVariants as whys
-use Rattle.of_ovs_words.specs.declared.field_word.FieldWord.{FieldWord}
-use Rattle.of_ovs_words.specs.declared.field_word.Form.{Form}
-use Rattle.of_ovs_words.specs.declared.field_word.Target.{Target}
-use Rattle.of_ovs_words.specs.declared.field_word.Form.TheVariants.{Vlan}
-use Rattle.of_ovs_words.specs.declared.action_word.ActionWord.{ActionWord}
-use Rattle.of_ovs_words.specs.declared.action_word.Verb.{Verb}
 use Rattle.of_ovs_words.specs.declared.action_word.Verb.TheVariants.{Output, Controller, Group, Drop, PushVlan, PopVlan, SetField, Mod, Tag, DecTtl, SetTtl}
+use Rattle.of_ovs_words.specs.Outcomes.{◌>>=◌, value_or_why, numbered, one, through_words}
+use Rattle.of_ovs_words.specs.{declared.why.Why.Why, declared.field_word.FieldWord.FieldWord, declared.field_word.Form.Form, declared.field_word.Target.Target}
+use Rattle.of_ovs_words.specs.{declared.field_word.Form.TheVariants.Vlan, declared.action_word.ActionWord.ActionWord, declared.action_word.Verb.Verb}
+use Rattle.of_ovs_words.specs.{Words.word_name, Words.word_value, Words.words_from, Numbers.number_in, Ports.port_in, FieldWords.field_word_named}
+use Rattle.of_ovs_words.specs.{Settings.field_for, Settings.fitting_in, Settings.last_of, ActionWords.action_named}
+use Rattle.of_ovs_words.specs.declared.why.Why.TheVariants as whys
 use Rattle.of_lines.specs.Lines.{before, behind}
 use Rattle.of_wire.specs.declared.limits.TheConstants.{OFPCML_NO_BUFFER, OFPP_CONTROLLER}
-use Rattle.of_ovs_words.specs.Words.{word_name, word_value, words_from}
-use Rattle.of_ovs_words.specs.Numbers.{number_in}
-use Rattle.of_ovs_words.specs.Outcomes.{◌>>=◌, value_or_why, numbered, one, through_words}
-use Rattle.of_ovs_words.specs.Ports.{port_in}
-use Rattle.of_ovs_words.specs.FieldWords.{field_word_named}
-use Rattle.of_ovs_words.specs.Settings.{field_for, fitting_in, last_of}
-use Rattle.of_ovs_words.specs.ActionWords.{action_named}
 
 -- a whole packet for the controller (OpenFlow 1.3.5, 7.2.5)
 abbrev pub output_to : ℕ → Action

@@ -1,13 +1,9 @@
 -- THE WORDS FOR MATCH FIELDS (ovs-fields(7)), the rows of the table in the code: the text of each, the field that it is for, and how its value is written.
 use Rattle.std.specs.Prelude.{ℕ, ◌==◌, Bool, false, List, [], Option, find}
-use Rattle.std.specs.Option.{option_map_or}
-use Rattle.std.specs.Str.{bytes_eq}
+use Rattle.std.specs.{Option.option_map_or, Str.bytes_eq}
 use Rattle.of_wire.specs.Parts.{keyword}
-use Rattle.of_layers.specs.declared.field.Field.{Field}
-use Rattle.of_layers.specs.Fields.{number_of}
-use Rattle.of_ovs_words.specs.declared.field_word.FieldWord.{FieldWord}
-use Rattle.of_ovs_words.specs.declared.field_word.TheConstants.{FIELD_WORDS}
-use Rattle.of_ovs_words.specs.Settings.{field_for}
+use Rattle.of_layers.specs.{declared.field.Field.Field, Fields.number_of}
+use Rattle.of_ovs_words.specs.{declared.field_word.FieldWord.FieldWord, declared.field_word.TheConstants.FIELD_WORDS, Settings.field_for}
 
 -- the word of a text
 unfoldable pub field_word_named : List ℕ → Option FieldWord

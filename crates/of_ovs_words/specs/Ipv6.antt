@@ -1,7 +1,6 @@
 -- IPv6 ADDRESSES IN WORDS: eight groups of 16 bits in hexadecimal digits with colons between them, or fewer and `::` once for the others, which are zeros.
 use Rattle.std.specs.Prelude.{ℕ, zero, suc, ◌+◌, ◌-◌, ◌*◌, ◌^◌, ◌==◌, ◌&&◌, not, nat_le, nat_lt, Bool, List, [], ◌∷◌, length, filter, Option, Some, None, if◌then◌else◌}
-use Rattle.of_lines.specs.Lines.{prepended, before, behind}
-use Rattle.of_lines.specs.Reading.{below, ◌>>=◌}
+use Rattle.of_lines.specs.{Lines.prepended, Lines.before, Lines.behind, Reading.below, Reading.◌>>=◌}
 use Rattle.of_ovs_words.specs.Numbers.{some_digits}
 
 -- WHAT STANDS BETWEEN COLONS

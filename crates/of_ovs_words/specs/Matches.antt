@@ -1,20 +1,14 @@
 -- WHAT WORDS SAY OF A MATCH, one after the other: settings of fields (ovs-fields(7)).
 use Rattle.std.specs.Prelude.{ℕ, ◌==◌, bit_or, ◌&&◌, Bool, true, false, not, is_some, List, [], ◌∷◌, ◌++◌, length, filter, filter_map, Option, Some, None, Result, Ok, Err, if◌then◌else◌}
 use Rattle.std.specs.Option.{unwrap_or}
-use Rattle.of_layers.specs.declared.field.Field.{Field}
-use Rattle.of_layers.specs.Fields.{number_of}
+use Rattle.of_layers.specs.{declared.field.Field.Field, Fields.number_of}
 use Rattle.of_layers.specs.declared.field.Field.TheVariants as fields
 use Rattle.of_layers.specs.declared.field.TheConstants.Field as constants
 use Rattle.of_oxm.specs.declared.match_field.MatchField.{MatchField}
-use Rattle.of_ovs_words.specs.declared.why.Why.{Why}
-use Rattle.of_ovs_words.specs.declared.why.Why.TheVariants as whys
-use Rattle.of_ovs_words.specs.declared.protocol_word.ProtocolWord.{ProtocolWord}
-use Rattle.of_ovs_words.specs.declared.field_word.FieldWord.{FieldWord}
-use Rattle.of_ovs_words.specs.declared.field_word.Form.{Form}
-use Rattle.of_ovs_words.specs.declared.field_word.Form.TheVariants.{Tci}
-use Rattle.of_ovs_words.specs.Outcomes.{◌>>=◌, value_or_why, one}
 use Rattle.of_ovs_words.specs.Settings.{exact, field_for, setting_in, last_of, setting_under}
-use Rattle.of_ovs_words.specs.Tci.{tci_settings}
+use Rattle.of_ovs_words.specs.{declared.why.Why.Why, declared.protocol_word.ProtocolWord.ProtocolWord, declared.field_word.FieldWord.FieldWord, declared.field_word.Form.Form}
+use Rattle.of_ovs_words.specs.{declared.field_word.Form.TheVariants.Tci, Outcomes.◌>>=◌, Outcomes.value_or_why, Outcomes.one, Tci.tci_settings}
+use Rattle.of_ovs_words.specs.declared.why.Why.TheVariants as whys
 
 abbrev pub protocol_settings : Option ℕ → List MatchField
 protocol_settings None = []

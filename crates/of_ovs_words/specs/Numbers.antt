@@ -1,8 +1,7 @@
 -- NUMBERS IN WORDS: decimal, or hexadecimal after 0x or 0X.
 use Rattle.std.specs.Prelude.{ℕ, ◌+◌, ◌-◌, ◌*◌, ◌==◌, ◌&&◌, Bool, nat_le, nat_lt, List, [], ◌∷◌, length, slice_index, codes, Option, Some, None, if◌then◌else◌}
 use Rattle.std.specs.Str.{bytes_eq}
-use Rattle.of_lines.specs.Lines.{before, behind}
-use Rattle.of_lines.specs.Reading.{below, ◌>>=◌}
+use Rattle.of_lines.specs.{Lines.before, Lines.behind, Reading.below, Reading.◌>>=◌}
 
 -- the value of a digit, in either case
 abbrev pub digit : ℕ → Option ℕ

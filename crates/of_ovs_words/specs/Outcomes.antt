@@ -1,8 +1,7 @@
 -- What a word gives, or why it is refused.
 use Rattle.std.specs.Prelude.{ℕ, ◌==◌, List, [], ◌∷◌, length, Option, Some, None, Result, Ok, Err, if◌then◌else◌}
-use Rattle.of_ovs_words.specs.declared.why.Why.{Why}
+use Rattle.of_ovs_words.specs.{declared.why.Why.Why, Numbers.number_in}
 use Rattle.of_ovs_words.specs.declared.why.Why.TheVariants as whys
-use Rattle.of_ovs_words.specs.Numbers.{number_in}
 
 -- the second step, if the first gave a value
 infixl 10 ◌>>=◌

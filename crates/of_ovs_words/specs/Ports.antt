@@ -1,11 +1,7 @@
 -- PORTS IN WORDS: a decimal number, or the name of a reserved port.
 use Rattle.std.specs.Prelude.{ℕ, ◌^◌, ◌&&◌, nat_le, List, Option, Some, None, Result, Ok, Err, if◌then◌else◌}
-use Rattle.of_ovs_words.specs.declared.why.Why.{Why}
-use Rattle.of_ovs_words.specs.declared.why.Why.TheVariants.{Unknown, Value}
-use Rattle.of_ovs_words.specs.declared.port_word.PortWord.{PortWord}
-use Rattle.of_ovs_words.specs.Numbers.{decimal_number}
-use Rattle.of_ovs_words.specs.Outcomes.{value_or_why}
-use Rattle.of_ovs_words.specs.PortWords.{port_word_named}
+use Rattle.of_ovs_words.specs.{declared.why.Why.Why, declared.why.Why.TheVariants.Unknown, declared.why.Why.TheVariants.Value, declared.port_word.PortWord.PortWord, Numbers.decimal_number}
+use Rattle.of_ovs_words.specs.{Outcomes.value_or_why, PortWords.port_word_named}
 
 -- a port without a number: reserved, or else named
 abbrev pub port_named : Why → Option PortWord → Result ℕ Why

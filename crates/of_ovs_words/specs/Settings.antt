@@ -1,23 +1,15 @@
 -- WHAT WORDS SAY OF A MATCH (ovs-fields(7)): settings of fields, in the order of the words.
 use Rattle.std.specs.Prelude.{ℕ, ◌+◌, ◌/◌, ◌%◌, ◌==◌, nat_le, nat_lt, min, not, codes, Bool, false, List, length, reverse, find, bit_and, Option, Some, None, Result, Ok, Err, if◌then◌else◌}
-use Rattle.std.specs.Option.{option_map_or, option_map}
-use Rattle.of_layers.specs.declared.field.Field.{Field}
+use Rattle.std.specs.{Option.option_map_or, Option.option_map, Str.bytes_eq}
+use Rattle.of_layers.specs.{declared.field.Field.Field, Fields.number_of, Fields.ones_of}
 use Rattle.of_layers.specs.declared.field.Field.TheVariants as fields
-use Rattle.of_layers.specs.Fields.{number_of, ones_of}
 use Rattle.of_oxm.specs.declared.match_field.MatchField.{MatchField}
-use Rattle.of_ovs_words.specs.declared.why.Why.{Why}
-use Rattle.of_ovs_words.specs.declared.why.Why.TheVariants as whys
-use Rattle.of_ovs_words.specs.declared.field_word.Form.{Form}
 use Rattle.of_ovs_words.specs.declared.field_word.Form.TheVariants.{Number, Port, Mac, Ipv4, Ipv6, Tos, Vlan, Tci}
-use Rattle.of_ovs_words.specs.declared.field_word.Target.{Target}
 use Rattle.of_ovs_words.specs.declared.field_word.Target.TheVariants.{Exact, Protocol, NetworkSource, NetworkDestination, TransportSource, TransportDestination, SourceOrType, DestinationOrCode, IcmpType, IcmpCode}
+use Rattle.of_ovs_words.specs.{declared.why.Why.Why, declared.field_word.Form.Form, declared.field_word.Target.Target, Numbers.number_in, Outcomes.◌>>=◌, Outcomes.value_or_why, Ports.port_in}
+use Rattle.of_ovs_words.specs.{Ipv6.ipv6_in, Values.mac_in, Values.ipv4_in, Values.first_bits_mask}
+use Rattle.of_ovs_words.specs.declared.why.Why.TheVariants as whys
 use Rattle.of_lines.specs.Lines.{before, behind}
-use Rattle.of_ovs_words.specs.Numbers.{number_in}
-use Rattle.of_ovs_words.specs.Outcomes.{◌>>=◌, value_or_why}
-use Rattle.of_ovs_words.specs.Ports.{port_in}
-use Rattle.std.specs.Str.{bytes_eq}
-use Rattle.of_ovs_words.specs.Ipv6.{ipv6_in}
-use Rattle.of_ovs_words.specs.Values.{mac_in, ipv4_in, first_bits_mask}
 
 -- ---- which field
 

@@ -1,8 +1,6 @@
 -- Why reading stops: memory ran out, or this is refused.
 use Rattle.std.specs.Prelude.{◌≡◌, Result, Err}
-use Rattle.of_ovs_words.specs.declared.why.Why.{Why}
-use Rattle.of_ovs_words.specs.declared.stop.Stop.{Stop}
-use Rattle.of_ovs_words.specs.declared.stop.Stop.TheVariants.{NoMemory, Refused}
+use Rattle.of_ovs_words.specs.{declared.why.Why.Why, declared.stop.Stop.Stop, declared.stop.Stop.TheVariants.NoMemory, declared.stop.Stop.TheVariants.Refused}
 
 abbrev pub Stops : {A : Type 0} → Result A Why → Stop → Type 0
 Stops outcome NoMemory = Unit {0}

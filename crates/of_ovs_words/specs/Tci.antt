@@ -3,10 +3,8 @@ use Rattle.std.specs.Prelude.{ℕ, ◌/◌, ◌==◌, bit_and, List, length, Opt
 use Rattle.of_layers.specs.declared.field.Field.TheVariants.{VlanVid, VlanPcp}
 use Rattle.of_oxm.specs.declared.match_field.MatchField.{MatchField}
 use Rattle.of_lines.specs.Lines.{before, behind}
-use Rattle.of_ovs_words.specs.declared.why.Why.{Why}
+use Rattle.of_ovs_words.specs.{declared.why.Why.Why, Outcomes.◌>>=◌, Outcomes.numbered, Settings.exact, Settings.masked}
 use Rattle.of_ovs_words.specs.declared.why.Why.TheVariants as whys
-use Rattle.of_ovs_words.specs.Outcomes.{◌>>=◌, numbered}
-use Rattle.of_ovs_words.specs.Settings.{exact, masked}
 
 abbrev pub tci_mask : List ℕ → Result ℕ Why
 tci_mask word = if length word == 0 then Ok 65535 else numbered 65536 word

@@ -1,11 +1,8 @@
 //! What a word says as an action.
 ghost use Rattle.std.specs.Prelude.{◌≡◌, ◌≤◌, ◌<◌, ◌^◌, ◌++◌, IfOk, Ok, Err, Some, None, IfErr, OnOk};
-ghost use Rattle.of_ovs_words.specs.Actions.{actions_in_words, with_action_in_word, with_key as with_key_of, action_in_word as action_of, action_without_value as alone_of, controller_in as controller_of, is_drop_word as drops_of, verb_action as verb_action_of, is_beside_drop as is_with_drop, is_matched as is_matched_by, length_in as length_of, new_value as new_value_of, output_at as output_of, output_in as sent_to, push_vlan_in as push_vlan_of, set_field_by as set_of, set_field_in as set_field_of, tag_first, tags as tags_of, tags_after as tags_behind, truncates as truncates_at};
 ghost use Rattle.std.specs.List.{fold};
-ghost use Rattle.of_ovs_words.specs.Outcomes.{through_words};
-ghost use Rattle.of_ovs_words.specs.Words.{words_from};
-ghost use Rattle.of_ovs_words.specs.Stops.{IfRefused, Stops};
-ghost use Rattle.of_ovs_words.specs.declared.stop.Stop.TheVariants.{NoMemory};
+ghost use Rattle.of_ovs_words.specs.Actions.{actions_in_words, with_action_in_word, with_key as with_key_of, action_in_word as action_of, action_without_value as alone_of, controller_in as controller_of, is_drop_word as drops_of, verb_action as verb_action_of, is_beside_drop as is_with_drop, is_matched as is_matched_by, length_in as length_of, new_value as new_value_of, output_at as output_of, output_in as sent_to, push_vlan_in as push_vlan_of, set_field_by as set_of, set_field_in as set_field_of, tag_first, tags as tags_of, tags_after as tags_behind, truncates as truncates_at};
+ghost use Rattle.of_ovs_words.specs.{Outcomes.through_words, Words.words_from, Stops.IfRefused, Stops.Stops, declared.stop.Stop.TheVariants.NoMemory};
 ghost use Rattle.of_wire.specs.declared.limits.TheConstants.{OFPCML_NO_BUFFER};
 
 use crate::action_word::{ActionWord, Verb};

@@ -1,6 +1,5 @@
 //! The words for match fields (ovs-fields(7)).
-ghost use Rattle.std.specs.Prelude.{◌≡◌};
-ghost use Rattle.std.specs.Option.{option_copied};
+ghost use Rattle.std.specs.{Prelude.◌≡◌, Option.option_copied};
 ghost use Rattle.of_ovs_words.specs.FieldWords.{field_word_named, is_for_field as is_word_for, text_for as text_of, word_for as written_for};
 
 use crate::keywords::{is_keyword, padded};

@@ -1,7 +1,6 @@
 //! Words in the rows of tables.
 ghost use Rattle.std.specs.Prelude.{◌≡◌, ◌≤◌, ◌<◌, ◌==◌, get_or, length, true};
-ghost use Rattle.std.specs.Char.{to_ascii_lowercase};
-ghost use Rattle.std.specs.Str.{bytes_eq, str_eq_ignore_ascii_case};
+ghost use Rattle.std.specs.{Char.to_ascii_lowercase, Str.bytes_eq, Str.str_eq_ignore_ascii_case};
 ghost use Rattle.of_wire.specs.Parts.{keyword};
 
 use of_wire::keyword;

@@ -1,6 +1,5 @@
 //! What the tables of words say as a whole.
-ghost use Rattle.std.specs.Prelude.{◌≡◌, is_some, true};
-ghost use Rattle.std.specs.List.{list_all};
+ghost use Rattle.std.specs.{Prelude.◌≡◌, Prelude.is_some, Prelude.true, List.list_all};
 ghost use Rattle.of_layers.specs.declared.field.TheConstants.Field.{ALL};
 ghost use Rattle.of_ovs_words.specs.FieldWords.{word_for};
 

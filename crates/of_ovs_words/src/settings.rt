@@ -1,9 +1,8 @@
 //! The meaning of words for a match, one after the other.
 ghost use Rattle.std.specs.Prelude.{◌≡◌, ◌==◌, ◌≤◌, ◌<◌, ◌++◌, ◌∷◌, [], not, IfOk, IfErr, OnOk, Ok, filter_map};
 ghost use Rattle.of_layers.specs.Fields.{number_of};
-ghost use Rattle.of_ovs_words.specs.Settings.{exact, last_of};
 ghost use Rattle.of_ovs_words.specs.Matches.{fields_of_settings as fields_in, tag_with, tagged_setting as tagged_by, takes_tag_back as takes_back, with_match_field, with_protocol, with_field_setting, with_tci, without_settings};
-ghost use Rattle.of_ovs_words.specs.Stops.{IfRefused, Stops};
+ghost use Rattle.of_ovs_words.specs.{Settings.exact, Settings.last_of, Stops.IfRefused, Stops.Stops};
 
 use crate::field_word::{FieldWord, Form};
 use crate::lists::push_one;

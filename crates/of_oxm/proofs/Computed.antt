@@ -1,22 +1,13 @@
 -- What the grammar of matches says, computed.
 use Rattle.std.proofs.Common.{◌≡◌, ℕ, ◌+◌, ◌<◌, Bool, true, false, List, [], ◌∷◌, ◌++◌, length, get_or, drop, Option, Some, None, Ok, Err, refl, sym, ap, subst, ◌∙◌, arith, cond}
-use Rattle.std.specs.Option.{option_map}
-use Rattle.std.proofs.lemmas.List.{append_assoc, append-nil, drop_at, length-append}
-use Rattle.of_wire.specs.declared.code.Code.{Code}
-use Rattle.of_wire.specs.declared.code.ReadError.{ReadError}
+use Rattle.std.{specs.Option.option_map, proofs.lemmas.List.append_assoc, proofs.lemmas.List.append-nil, proofs.lemmas.List.drop_at, proofs.lemmas.List.length-append}
+use Rattle.of_wire.specs.{declared.code.Code.Code, declared.code.ReadError.ReadError, Refusals.refusal, Refusals.first_of, Failures.Fails}
+use Rattle.of_wire.{specs.Items.AreItems, specs.Items.IsItemsEnd as ItemsEnd, specs.Items.items_from, specs.Items.outcome, proofs.ItemsRead.items_are}
 use Rattle.of_wire.specs.declared.code.ReadError.TheVariants as errors
-use Rattle.of_wire.specs.Refusals.{refusal, first_of}
-use Rattle.of_wire.specs.Failures.{Fails}
-use Rattle.of_wire.specs.Items.{AreItems, IsItemsEnd as ItemsEnd, items_from, outcome}
-use Rattle.of_wire.proofs.ItemsRead.{items_are}
-use Rattle.of_layers.specs.declared.field.Field.{Field}
-use Rattle.of_layers.specs.Fields.{field_at}
-use Rattle.of_oxm.specs.declared.match_field.MatchField.{MatchField}
-use Rattle.of_oxm.specs.MatchFieldWire.{encoding, number_at, match_field_of}
+use Rattle.of_layers.specs.{declared.field.Field.Field, Fields.field_at}
 use Rattle.of_oxm.specs.MatchGrammar.{match_len, padded, match_body, match_head_refusals, encodings, AreFieldsAfter, IsEnd, Fields, IsFaulty}
-use Rattle.of_oxm.specs.NormalForm.{normal}
-use Rattle.of_oxm.specs.Prerequisites.{prerequisites_met}
-use Rattle.of_oxm.specs.MatchReading.{match_fields, then_normal, match_by, match_of}
+use Rattle.of_oxm.specs.{declared.match_field.MatchField.MatchField, MatchFieldWire.encoding, MatchFieldWire.number_at, MatchFieldWire.match_field_of, NormalForm.normal}
+use Rattle.of_oxm.specs.{Prerequisites.prerequisites_met, MatchReading.match_fields, MatchReading.then_normal, MatchReading.match_by, MatchReading.match_of}
 use Rattle.of_oxm.proofs.MatchFieldLemmas.{field_again}
 
 ends_so : (seen : List MatchField) (rest : List ℕ) (fault : Option Code) → IsEnd seen rest fault → ItemsEnd match_fields seen rest fault

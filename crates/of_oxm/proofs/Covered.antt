@@ -1,21 +1,13 @@
 -- The prerequisites of a match are in each match that it covers.
 use Rattle.std.proofs.Common.{◌≡◌, ℕ, Bool, true, false, eqb, List, [], ◌∷◌, Option, Some, None, refl, sym, ap, ◌∙◌}
 use Rattle.std.specs.Prelude.{bit_and, not, ◌&&◌, ◌||◌, unwrap_or, IfSome}
-use Rattle.std.specs.List.{list_any, AllByRecursion}
-use Rattle.std.proofs.lemmas.Bool.{eqb-true, eq-eqb}
-use Rattle.std.specs.Int.Bits.{and_zero_l}
-use Rattle.of_layers.specs.declared.field.Field.{Field}
-use Rattle.of_layers.specs.declared.field.Field.TheVariants as fields
-use Rattle.of_layers.specs.declared.field.Prerequisite.{Prerequisite}
+use Rattle.std.{specs.List.list_any, specs.List.AllByRecursion, specs.Int.Bits.and_zero_l, proofs.lemmas.Bool.eqb-true, proofs.lemmas.Bool.eq-eqb}
 use Rattle.of_layers.specs.declared.field.Prerequisite.TheVariants.{Nothing, Tag, Ip, Ipv4, Ipv6, Arp, Tcp, Udp, Icmpv4, Icmpv6}
-use Rattle.of_layers.specs.Fields.{row_of, number_of, ones_of, is_maskable}
+use Rattle.of_layers.specs.{declared.field.Field.Field, declared.field.Prerequisite.Prerequisite, Fields.row_of, Fields.number_of, Fields.ones_of, Fields.is_maskable}
 use Rattle.of_layers.proofs.Table.{same_number}
-use Rattle.of_oxm.specs.declared.match_field.MatchField.{MatchField}
-use Rattle.of_oxm.specs.Prerequisites.{has, is_met}
-use Rattle.of_oxm.specs.NormalForm.{IsKept, IsKeptMask, IsMatch}
-use Rattle.of_oxm.specs.Relations.{bits_looked_at, is_within, covers_match}
-use Rattle.of_oxm.proofs.Normal.{under_ones}
-use Rattle.of_oxm.proofs.Related.{and_true}
+use Rattle.of_layers.specs.declared.field.Field.TheVariants as fields
+use Rattle.of_oxm.specs.{declared.match_field.MatchField.MatchField, Prerequisites.has, Prerequisites.is_met, NormalForm.IsKept, NormalForm.IsKeptMask, NormalForm.IsMatch}
+use Rattle.of_oxm.{specs.Relations.bits_looked_at, specs.Relations.is_within, specs.Relations.covers_match, proofs.Normal.under_ones, proofs.Related.and_true}
 
 -- where each x with the test has a y with it within, the test passes among what is covered
 some_within : (t : MatchField → Bool) (x : MatchField) (m : List MatchField) → AllByRecursion IsKept m → ((y : MatchField) → IsKept y → is_within x y ≡ true → t y ≡ true) → list_any (λ y. is_within x y) m ≡ true → list_any t m ≡ true

@@ -1,24 +1,14 @@
 -- What covers, from the field maps that are matched: each field of a match is looked at by what covers nothing else, once with no further bit set and once with all of them.
 use Rattle.std.proofs.Common.{◌≡◌, ℕ, ◌^◌, ◌+◌, ◌-◌, ◌<◌, ◌≤◌, Bool, true, false, cond, eqb, List, [], ◌∷◌, Option, Some, None, refl, sym, ap, subst, ◌∙◌, arith}
 use Rattle.std.specs.Prelude.{bit_and, bit_or, ◌||◌, unwrap_or, IfSome}
-use Rattle.std.specs.Int.{bit_at}
-use Rattle.std.specs.Int.Bits.{and_self, and_comm}
-use Rattle.std.specs.List.{list_any, AllByRecursion}
-use Rattle.std.specs.Option.{option_map}
-use Rattle.std.proofs.lemmas.Bool.{eqb-true, eq-eqb}
-use Rattle.std.proofs.lemmas.Nat.{and-not, and_or_apart, pow_pos}
+use Rattle.std.specs.{Int.bit_at, Int.Bits.and_self, Int.Bits.and_comm, List.list_any, List.AllByRecursion, Option.option_map}
+use Rattle.std.proofs.{lemmas.Bool.eqb-true, lemmas.Bool.eq-eqb, lemmas.Nat.and-not, lemmas.Nat.and_or_apart, lemmas.Nat.pow_pos}
 use Rattle.std.proofs.lemmas.Nat.Bits.{bit_at_and, bit_at_or, same_from_bits}
-use Rattle.of_layers.specs.declared.field.Field.{Field}
-use Rattle.of_layers.specs.Fields.{number_of, bit_count, ones_of}
-use Rattle.of_layers.proofs.Table.{ones_is}
+use Rattle.of_layers.{specs.declared.field.Field.Field, specs.Fields.number_of, specs.Fields.bit_count, specs.Fields.ones_of, proofs.Table.ones_is}
 use Rattle.of_headers.specs.FieldMap.{seen}
-use Rattle.of_oxm.specs.declared.match_field.MatchField.{MatchField}
-use Rattle.of_oxm.specs.NormalForm.{IsKept, IsKeptMask, IsMatch}
 use Rattle.of_oxm.specs.Relations.{IsWithinBits, bits_looked_at, agrees, matches_map, is_within, covers_match}
-use Rattle.of_oxm.specs.Masks.{first_at, value_of}
-use Rattle.of_oxm.proofs.Related.{and_true}
-use Rattle.of_oxm.proofs.Joined.{covered, found_if, at_most, kept_within}
-use Rattle.of_oxm.proofs.Seen.{seen_matched}
+use Rattle.of_oxm.specs.{declared.match_field.MatchField.MatchField, NormalForm.IsKept, NormalForm.IsKeptMask, NormalForm.IsMatch, Masks.first_at, Masks.value_of}
+use Rattle.of_oxm.proofs.{Related.and_true, Joined.covered, Joined.found_if, Joined.at_most, Joined.kept_within, Seen.seen_matched}
 
 -- ---- the bits that a field of a match does not look at
 

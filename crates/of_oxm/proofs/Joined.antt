@@ -1,23 +1,13 @@
 -- Two matches that overlap match one field map: where both look at a field it has the ones of both values, else the value of the one that looks there.
 use Rattle.std.proofs.Common.{◌≡◌, ℕ, ◌^◌, ◌<◌, ◌≤◌, Bool, true, false, cond, eqb, List, [], ◌∷◌, Option, Some, None, refl, sym, ap, subst, ◌∙◌, arith}
 use Rattle.std.specs.Prelude.{bit_and, bit_or, not, ◌||◌, unwrap_or, IfSome}
-use Rattle.std.specs.Int.{bit_at}
-use Rattle.std.specs.List.{list_all, AllByRecursion}
-use Rattle.std.specs.Option.{option_map}
-use Rattle.std.proofs.lemmas.Bool.{eqb-true, eq-eqb}
-use Rattle.std.proofs.lemmas.Nat.{or_lt, pow_pos}
-use Rattle.std.proofs.lemmas.Nat.Bits.{bit_at_and, bit_at_or, same_from_bits}
-use Rattle.of_layers.specs.declared.field.Field.{Field}
-use Rattle.of_layers.specs.Fields.{number_of, bit_count, ones_of}
-use Rattle.of_layers.proofs.Table.{same_number, ones_is}
+use Rattle.std.{specs.Int.bit_at, specs.List.list_all, specs.List.AllByRecursion, specs.Option.option_map, proofs.lemmas.Bool.eqb-true, proofs.lemmas.Bool.eq-eqb}
+use Rattle.std.proofs.{lemmas.Nat.or_lt, lemmas.Nat.pow_pos, lemmas.Nat.Bits.bit_at_and, lemmas.Nat.Bits.bit_at_or, lemmas.Nat.Bits.same_from_bits}
+use Rattle.of_layers.{specs.declared.field.Field.Field, specs.Fields.number_of, specs.Fields.bit_count, specs.Fields.ones_of, proofs.Table.same_number, proofs.Table.ones_is}
 use Rattle.of_headers.specs.FieldMap.{seen}
-use Rattle.of_oxm.specs.declared.match_field.MatchField.{MatchField}
-use Rattle.of_oxm.specs.NormalForm.{IsKept, IsKeptMask, IsMatch}
 use Rattle.of_oxm.specs.Relations.{IsWithinBits, bits_looked_at, matches_map, can_both, overlaps_match}
-use Rattle.of_oxm.specs.Masks.{first_at, value_of}
-use Rattle.of_oxm.proofs.Related.{and_true}
-use Rattle.of_oxm.proofs.Normal.{under_ones}
-use Rattle.of_oxm.proofs.Seen.{seen_matched}
+use Rattle.of_oxm.specs.{declared.match_field.MatchField.MatchField, NormalForm.IsKept, NormalForm.IsKeptMask, NormalForm.IsMatch, Masks.first_at, Masks.value_of}
+use Rattle.of_oxm.proofs.{Related.and_true, Normal.under_ones, Seen.seen_matched}
 
 -- ---- the map
 

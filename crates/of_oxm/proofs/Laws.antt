@@ -1,21 +1,13 @@
 -- Bytes begin with one encoding of a match, or have one code.
 use Rattle.std.proofs.Common.{◌≡◌, ℕ, ◌-◌, ◌≤◌, Bool, true, false, ltb, List, [], ◌∷◌, ◌++◌, length, take, drop, Some, None, Result, Ok, Err, refl, sym, ap, subst, ◌∙◌, arith}
-use Rattle.std.specs.Prelude.{◌||◌, IfOk, IfErr}
-use Rattle.std.proofs.lemmas.Bool.{le-ltb}
 use Rattle.std.proofs.lemmas.List.{append_assoc, append-nil, length-append, take_at, take-append-drop, length-take}
-use Rattle.byteorder.specs.Endian.{big_number, big_bytes}
-use Rattle.byteorder.specs.Numbers.{big_number-reads_back}
-use Rattle.of_wire.specs.declared.code.Code.{Code}
-use Rattle.of_wire.specs.declared.code.ReadError.{ReadError}
+use Rattle.std.{specs.Prelude.◌||◌, specs.Prelude.IfOk, specs.Prelude.IfErr, proofs.lemmas.Bool.le-ltb}
+use Rattle.byteorder.specs.{Endian.big_number, Endian.big_bytes, Numbers.big_number-reads_back}
+use Rattle.of_wire.specs.{declared.code.Code.Code, declared.code.ReadError.ReadError, Refusals.first_of, Failures.Fails}
 use Rattle.of_wire.specs.declared.code.ReadError.TheVariants as errors
-use Rattle.of_oxm.specs.declared.match_field.MatchField.{MatchField}
-use Rattle.of_wire.specs.Refusals.{first_of}
-use Rattle.of_oxm.specs.NormalForm.{normal}
 use Rattle.of_oxm.specs.MatchGrammar.{encodings, Fields, match_len, padded, match_body, match_head_refusals, EncodesMatch, IsRefusedMatch, ReadsAs, RefusesAs}
-use Rattle.of_oxm.specs.Prerequisites.{prerequisites_met}
-use Rattle.of_wire.specs.Failures.{Fails}
-use Rattle.of_oxm.proofs.MatchFieldLemmas.{NoneApplies, none_first}
-use Rattle.of_oxm.proofs.Walk.{one_reading}
+use Rattle.of_oxm.specs.{declared.match_field.MatchField.MatchField, NormalForm.normal, Prerequisites.prerequisites_met}
+use Rattle.of_oxm.proofs.{MatchFieldLemmas.NoneApplies, MatchFieldLemmas.none_first, Walk.one_reading}
 
 -- what bytes are that begin with an encoding
 pub record Begins (a bytes : List ℕ) (fields : List MatchField) : Type 0 where

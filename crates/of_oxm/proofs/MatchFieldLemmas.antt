@@ -1,20 +1,14 @@
 -- What a field's refusals leave is an encoding, and an encoding has no refusal.
 use Rattle.std.proofs.Common.{◌≡◌, ℕ, suc, ◌+◌, ◌*◌, ◌/◌, ◌%◌, ◌<◌, ◌≤◌, ◌⊎◌, Bool, true, false, eqb, List, [], ◌∷◌, ◌++◌, length, get_or, take, drop, Option, Some, None, refl, sym, ap, ◌∙◌, arith, inl, inr}
-use Rattle.std.specs.Prelude.{bit_and, not, ◌&&◌, IfSome}
-use Rattle.std.specs.List.{list_any}
 use Rattle.std.proofs.lemmas.Bool.{ltb-false, le-ltb, eqb-true, eqb-false, eq-eqb}
 use Rattle.std.proofs.lemmas.List.{take-append-drop, length-drop, drop-drop, append_assoc, length-append, drop_at}
-use Rattle.std.proofs.Math.Nat.{mod-lt}
-use Rattle.byteorder.specs.Endian.{big_number, big_bytes}
-use Rattle.byteorder.specs.Numbers.{big_from-lt, big_number-reads_back, length-bytes_high_first}
-use Rattle.of_wire.specs.declared.code.Code.{Code}
-use Rattle.of_layers.specs.declared.field.Field.{Field}
-use Rattle.of_oxm.specs.declared.match_field.MatchField.{MatchField}
+use Rattle.std.{specs.Prelude.bit_and, specs.Prelude.not, specs.Prelude.◌&&◌, specs.Prelude.IfSome, specs.List.list_any, proofs.Math.Nat.mod-lt}
+use Rattle.byteorder.specs.{Endian.big_number, Endian.big_bytes, Numbers.big_from-lt, Numbers.big_number-reads_back, Numbers.length-bytes_high_first}
+use Rattle.of_wire.{specs.declared.code.Code.Code, specs.Refusals.first_of, proofs.Numbers.IsBytes, proofs.Numbers.IsBytes-drop, proofs.Numbers.big_bytes-big_number}
 use Rattle.of_layers.specs.Fields.{number_of, bytes_of, ones_of, is_maskable, field_at}
-use Rattle.of_wire.specs.Refusals.{first_of}
+use Rattle.of_layers.{specs.declared.field.Field.Field, proofs.Table.field_at-number_of, proofs.Table.number_of-field_at, proofs.Table.value_below}
 use Rattle.of_oxm.specs.MatchFieldWire.{encoding, IsEncoded, IsAllowedMask, body_len, is_masked_at, number_at, value_at, mask_of_bytes, match_field_of, field_refusals, known_field_refusals}
-use Rattle.of_layers.proofs.Table.{field_at-number_of, number_of-field_at, value_below}
-use Rattle.of_wire.proofs.Numbers.{IsBytes, IsBytes-drop, big_bytes-big_number}
+use Rattle.of_oxm.specs.declared.match_field.MatchField.{MatchField}
 
 -- ---- lists of refusals
 

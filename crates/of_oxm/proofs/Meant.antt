@@ -1,14 +1,9 @@
 -- What the normal form of a match matches is what each field, as it was encoded, agrees with.
 use Rattle.std.proofs.Common.{◌≡◌, ℕ, Bool, true, false, cond, eqb, List, [], ◌∷◌, Option, Some, None, refl, sym, ap, ◌∙◌}
-use Rattle.std.specs.Prelude.{bit_and, ◌&&◌, nat_lt}
-use Rattle.std.specs.Int.Bits.{and_self}
-use Rattle.std.proofs.lemmas.Bool.{eqb-true}
-use Rattle.of_layers.specs.declared.field.Field.{Field}
-use Rattle.of_layers.specs.declared.field.Field.TheVariants.{InPort}
-use Rattle.of_layers.specs.Fields.{row_of, number_of, ones_of}
-use Rattle.of_oxm.specs.declared.match_field.MatchField.{MatchField}
+use Rattle.std.{specs.Prelude.bit_and, specs.Prelude.◌&&◌, specs.Prelude.nat_lt, specs.Int.Bits.and_self, proofs.lemmas.Bool.eqb-true}
+use Rattle.of_layers.specs.{declared.field.Field.Field, declared.field.Field.TheVariants.InPort, Fields.row_of, Fields.number_of, Fields.ones_of}
 use Rattle.of_oxm.specs.NormalForm.{under, kept, with_field, with_kept_field, normal}
-use Rattle.of_oxm.specs.Relations.{bits_looked_at, agrees, matches_map}
+use Rattle.of_oxm.specs.{declared.match_field.MatchField.MatchField, Relations.bits_looked_at, Relations.agrees, Relations.matches_map}
 use Rattle.of_oxm.specs.Meaning.{meant_bits, meets_by, field_meets, are_met}
 
 some_ones : (f : Field) → eqb (ones_of f) 0 ≡ false

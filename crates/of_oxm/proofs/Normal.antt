@@ -1,20 +1,11 @@
 -- The normal form of fields is a match's.
 use Rattle.std.proofs.Common.{◌≡◌, ℕ, ◌%◌, ◌^◌, ◌<◌, ◌≤◌, Bool, true, false, cond, eqb, ltb, List, [], ◌∷◌, ◌++◌, Option, Some, None, refl, sym, ap, subst, ◌∙◌, arith, inl, inr}
-use Rattle.std.specs.Prelude.{bit_and, IfSome, ◌||◌}
-use Rattle.std.specs.List.{list_any, AllByRecursion}
 use Rattle.std.proofs.lemmas.Bool.{ltb-false, ltb-true, eqb-true, eqb-false, eq-eqb}
-use Rattle.std.proofs.lemmas.Nat.{and_mask, and_assoc}
-use Rattle.std.specs.Int.Bits.{and_self}
-use Rattle.std.proofs.Math.Pow.{pow_pos}
-use Rattle.std.proofs.Math.Nat.{mod-eq_of_lt, mod-lt}
-use Rattle.of_layers.specs.declared.field.Field.{Field}
-use Rattle.of_oxm.specs.declared.match_field.MatchField.{MatchField}
-use Rattle.of_layers.specs.Fields.{number_of, bit_count, ones_of, is_maskable}
-use Rattle.of_layers.proofs.Table.{ones_is}
-use Rattle.of_oxm.specs.MatchFieldWire.{IsEncoded, IsAllowedMask}
+use Rattle.std.specs.{Prelude.bit_and, Prelude.IfSome, Prelude.◌||◌, List.list_any, List.AllByRecursion, Int.Bits.and_self}
+use Rattle.std.proofs.{lemmas.Nat.and_mask, lemmas.Nat.and_assoc, Math.Pow.pow_pos, Math.Nat.mod-eq_of_lt, Math.Nat.mod-lt}
+use Rattle.of_layers.{specs.declared.field.Field.Field, specs.Fields.number_of, specs.Fields.bit_count, specs.Fields.ones_of, specs.Fields.is_maskable, proofs.Table.ones_is}
 use Rattle.of_oxm.specs.NormalForm.{under, kept, with_field, with_kept_field, normal, IsKept, IsAscending}
-use Rattle.of_oxm.specs.MatchGrammar.{AreFieldsAfter}
-use Rattle.of_oxm.specs.MatchFieldWire.{is_among}
+use Rattle.of_oxm.specs.{declared.match_field.MatchField.MatchField, MatchFieldWire.IsEncoded, MatchFieldWire.IsAllowedMask, MatchFieldWire.is_among, MatchGrammar.AreFieldsAfter}
 
 -- ---- a field occurs once
 

@@ -1,10 +1,7 @@
 -- The match of a port is in normal form.
 use Rattle.std.proofs.Common.{ℕ, ◌^◌, ◌<◌, ◌≤◌, refl, arith}
-use Rattle.of_layers.specs.declared.field.Field.TheVariants.{InPort}
-use Rattle.of_layers.specs.Fields.{row_of, ones_of}
-use Rattle.of_oxm.specs.Prerequisites.{prerequisites_met}
-use Rattle.of_oxm.specs.NormalForm.{IsMatch}
-use Rattle.of_oxm.specs.InPortMatch.{in_port_match}
+use Rattle.of_layers.specs.{declared.field.Field.TheVariants.InPort, Fields.row_of, Fields.ones_of}
+use Rattle.of_oxm.specs.{Prerequisites.prerequisites_met, NormalForm.IsMatch, InPortMatch.in_port_match}
 
 in_port_below : (port : ℕ) → port < 2 ^ 32 → port ≤ ones_of InPort
 unfolding row_of

@@ -1,15 +1,10 @@
 -- What covers and overlaps say of the field maps that are matched.
 use Rattle.std.proofs.Common.{◌≡◌, ℕ, Bool, true, false, eqb, List, [], ◌∷◌, Option, Some, None, refl, sym, ap, subst, ◌∙◌}
-use Rattle.std.specs.Prelude.{bit_and, not, ◌&&◌, ◌||◌}
-use Rattle.std.specs.List.{list_any, list_all}
-use Rattle.std.proofs.lemmas.Bool.{eqb-true, eq-eqb}
-use Rattle.std.proofs.lemmas.Nat.{and_assoc}
-use Rattle.std.specs.Int.Bits.{and_comm}
-use Rattle.of_layers.specs.declared.field.Field.{Field}
-use Rattle.of_layers.specs.Fields.{number_of}
-use Rattle.of_layers.proofs.Table.{same_number}
-use Rattle.of_oxm.specs.declared.match_field.MatchField.{MatchField}
+use Rattle.std.specs.{Prelude.bit_and, Prelude.not, Prelude.◌&&◌, Prelude.◌||◌, List.list_any, List.list_all, Int.Bits.and_comm}
+use Rattle.std.proofs.{lemmas.Bool.eqb-true, lemmas.Bool.eq-eqb, lemmas.Nat.and_assoc}
+use Rattle.of_layers.{specs.declared.field.Field.Field, specs.Fields.number_of, proofs.Table.same_number}
 use Rattle.of_oxm.specs.Relations.{bits_looked_at, agrees, matches_map, is_within, covers_match, can_both, overlaps_match}
+use Rattle.of_oxm.specs.declared.match_field.MatchField.{MatchField}
 
 pub and_true : (a b : Bool) → (a && b) ≡ true → (a ≡ true) × (b ≡ true)
 and_true true b h = (refl, h)

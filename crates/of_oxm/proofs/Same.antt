@@ -1,22 +1,12 @@
 -- `==` tells fields of matches apart, and so lists of them.
 use Rattle.std.proofs.Common.{◌≡◌, ℕ, Bool, true, false, eqb, ◌&&◌, List, Option, Some, None, ap, refl, sym, ◌∙◌, rules}
-use Rattle.std.specs.Prelude.{nat_eq}
-use Rattle.std.specs.Bool.{Decides}
-use Rattle.std.specs.Option.{option_eq}
-use Rattle.std.specs.Cmp.Lexicographic.{pointwise}
-use Rattle.std.proofs.lemmas.Bool.{eqb-true, eq-eqb}
-use Rattle.std.proofs.lemmas.Bool.Decides.{Decides-and, Decides-eqb, Decides-like}
-use Rattle.std.proofs.lemmas.Slice.Eq.{slice_eq-Decides}
+use Rattle.std.{specs.Prelude.nat_eq, specs.Bool.Decides, specs.Option.option_eq, specs.Cmp.Lexicographic.pointwise, proofs.lemmas.Bool.eqb-true, proofs.lemmas.Bool.eq-eqb}
+use Rattle.std.proofs.{lemmas.Bool.Decides.Decides-and, lemmas.Bool.Decides.Decides-eqb, lemmas.Bool.Decides.Decides-like, lemmas.Slice.Eq.slice_eq-Decides}
 use denote.Enum.Bare.{same_true}
-use Rattle.of_layers.specs.contracts.field.Field.{the_type}
+use Rattle.of_layers.{specs.contracts.field.Field.the_type, specs.declared.field.Field.Field, specs.declared.field.Field.TheVariants.InPort, specs.Fields.number_of, proofs.Table.same_number}
 use Rattle.of_layers.specs.contracts.field.FieldPartialEq.TheImpl as the_field
-use Rattle.of_layers.specs.declared.field.Field.{Field}
-use Rattle.of_layers.specs.declared.field.Field.TheVariants.{InPort}
-use Rattle.of_layers.specs.Fields.{number_of}
-use Rattle.of_layers.proofs.Table.{same_number}
 use Rattle.of_oxm.specs.contracts.match_field.MatchFieldPartialEq.TheImpl as the_match_field
-use Rattle.of_oxm.specs.declared.match_field.MatchField.{MatchField}
-use Rattle.of_oxm.specs.SameMatch.{is_same_field, is_same_match}
+use Rattle.of_oxm.specs.{declared.match_field.MatchField.MatchField, SameMatch.is_same_field, SameMatch.is_same_match}
 
 -- a field of a match, by its parts
 abbrev made : Field → ℕ → Option ℕ → MatchField

@@ -1,18 +1,11 @@
 -- What a match looks at in each field, and what it matches.
 use Rattle.std.proofs.Common.{◌≡◌, ℕ, zero, suc, ◌+◌, ◌<◌, Bool, true, false, cond, eqb, List, [], ◌∷◌, length, get_or, take, Option, Some, None, refl, sym, ap, subst, ◌∙◌, arith}
-use Rattle.std.specs.Prelude.{bit_and, ◌&&◌, ◌↔◌}
-use Rattle.std.specs.List.{AllByRecursion}
-use Rattle.std.specs.Option.{option_map}
+use Rattle.std.specs.{Prelude.bit_and, Prelude.◌&&◌, Prelude.◌↔◌, List.AllByRecursion, Option.option_map}
 use Rattle.std.proofs.lemmas.Bool.{eqb-true, eqb-false, eq-eqb, ne_eqb}
-use Rattle.of_layers.specs.declared.field.Field.{Field}
-use Rattle.of_layers.specs.Fields.{number_of}
-use Rattle.of_layers.proofs.Table.{same_number}
+use Rattle.of_layers.{specs.declared.field.Field.Field, specs.Fields.number_of, proofs.Table.same_number}
 use Rattle.of_headers.specs.FieldMap.{seen}
-use Rattle.of_oxm.specs.declared.match_field.MatchField.{MatchField}
-use Rattle.of_oxm.specs.NormalForm.{IsAscending, IsMatch}
-use Rattle.of_oxm.specs.Relations.{bits_looked_at, agrees, matches_map}
-use Rattle.of_oxm.specs.Masks.{first_at, looked_at, value_of, Agree}
-use Rattle.of_oxm.proofs.Related.{and_true}
+use Rattle.of_oxm.specs.{declared.match_field.MatchField.MatchField, NormalForm.IsAscending, NormalForm.IsMatch, Relations.bits_looked_at, Relations.agrees, Relations.matches_map}
+use Rattle.of_oxm.{specs.Masks.first_at, specs.Masks.looked_at, specs.Masks.value_of, specs.Masks.Agree, proofs.Related.and_true}
 
 -- ---- one field more
 

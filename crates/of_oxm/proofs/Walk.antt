@@ -1,16 +1,10 @@
 -- Fields one after the other: as a loop reads them, and that no bytes are read in two ways.
 use Rattle.std.proofs.Common.{◌≡◌, ℕ, ◌+◌, true, false, List, [], ◌∷◌, ◌++◌, length, get_or, drop, Option, Some, None, refl, sym, ap, subst, ◌∙◌}
-use Rattle.std.proofs.lemmas.List.{append_assoc, append-nil, drop_at}
-use Rattle.std.proofs.lemmas.List.Concat.{flat_map-append}
-use Rattle.of_wire.specs.declared.code.Code.{Code}
-use Rattle.of_layers.specs.declared.field.Field.{Field}
-use Rattle.of_oxm.specs.declared.match_field.MatchField.{MatchField}
-use Rattle.of_layers.specs.Fields.{field_at}
-use Rattle.of_wire.specs.Refusals.{first_of}
-use Rattle.of_oxm.specs.MatchFieldWire.{IsEncoded, encoding, number_at, match_field_of, field_refusals}
-use Rattle.of_oxm.specs.MatchGrammar.{encodings, AreFieldsAfter, IsEnd, Fields}
-use Rattle.of_oxm.specs.MatchFieldWire.{is_among}
-use Rattle.of_wire.proofs.Numbers.{IsBytes, IsBytes-drop}
+use Rattle.std.proofs.{lemmas.List.append_assoc, lemmas.List.append-nil, lemmas.List.drop_at, lemmas.List.Concat.flat_map-append}
+use Rattle.of_wire.{specs.declared.code.Code.Code, specs.Refusals.first_of, proofs.Numbers.IsBytes, proofs.Numbers.IsBytes-drop}
+use Rattle.of_layers.specs.{declared.field.Field.Field, Fields.field_at}
+use Rattle.of_oxm.specs.MatchFieldWire.{IsEncoded, encoding, number_at, match_field_of, field_refusals, is_among}
+use Rattle.of_oxm.specs.{declared.match_field.MatchField.MatchField, MatchGrammar.encodings, MatchGrammar.AreFieldsAfter, MatchGrammar.IsEnd, MatchGrammar.Fields}
 use Rattle.of_oxm.proofs.MatchFieldLemmas.{IsRead, field_takes, field_again}
 
 -- what was read, and what is left

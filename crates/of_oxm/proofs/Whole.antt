@@ -1,21 +1,13 @@
 -- A match as a whole.
 use Rattle.std.proofs.Common.{◌≡◌, ℕ, suc, ◌-◌, ◌≤◌, true, false, List, [], ◌∷◌, ◌++◌, length, take, drop, Some, None, refl, sym, ap, subst, ◌∙◌, arith}
-use Rattle.std.proofs.lemmas.Bool.{ltb-false, eqb-true}
+use Rattle.std.{specs.List.AllByRecursion, proofs.lemmas.Bool.ltb-false, proofs.lemmas.Bool.eqb-true}
 use Rattle.std.proofs.lemmas.List.{append-nil, length-take, take-append-drop, take-take}
-use Rattle.byteorder.specs.Endian.{big_number, big_bytes}
-use Rattle.byteorder.specs.Numbers.{big_from-lt}
-use Rattle.of_wire.specs.declared.code.ReadError.{ReadError}
+use Rattle.byteorder.specs.{Endian.big_number, Endian.big_bytes, Numbers.big_from-lt}
+use Rattle.of_wire.{specs.declared.code.ReadError.ReadError, specs.Refusals.first_of, specs.Refusals.refusal, specs.Failures.Fails, proofs.Numbers.IsBytes, proofs.Numbers.big_bytes-big_number}
 use Rattle.of_wire.specs.declared.code.ReadError.TheVariants as errors
-use Rattle.of_oxm.specs.declared.match_field.MatchField.{MatchField}
-use Rattle.of_wire.specs.Refusals.{first_of, refusal}
-use Rattle.of_oxm.specs.NormalForm.{normal, IsMatch, IsKept, IsAscending}
 use Rattle.of_oxm.specs.MatchGrammar.{encodings, IsEnd, Fields, IsFaulty, match_len, padded, match_body, match_head_refusals, EncodesMatch, IsRefusedMatch}
-use Rattle.of_oxm.specs.Prerequisites.{prerequisites_met}
-use Rattle.of_wire.specs.Failures.{Fails}
-use Rattle.std.specs.List.{AllByRecursion}
-use Rattle.of_oxm.proofs.Normal.{rising_normal, or_false}
-use Rattle.of_wire.proofs.Numbers.{IsBytes, big_bytes-big_number}
-use Rattle.of_oxm.proofs.MatchFieldLemmas.{none_applies, not_false}
+use Rattle.of_oxm.specs.{declared.match_field.MatchField.MatchField, NormalForm.normal, NormalForm.IsMatch, NormalForm.IsKept, NormalForm.IsAscending, Prerequisites.prerequisites_met}
+use Rattle.of_oxm.proofs.{Normal.rising_normal, Normal.or_false, MatchFieldLemmas.none_applies, MatchFieldLemmas.not_false}
 
 pub field_refused : (bytes body : List ℕ) (e : ReadError) → first_of (match_head_refusals bytes) ≡ None → body ≡ match_body bytes → Fails (IsFaulty body) e → Fails (IsRefusedMatch bytes) e
 field_refused bytes body errors.Memory none body_is h = tt

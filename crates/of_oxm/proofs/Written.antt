@@ -1,22 +1,15 @@
 -- What is written is an encoding.
 use Rattle.std.proofs.Common.{◌≡◌, ℕ, suc, ◌+◌, ◌-◌, ◌*◌, ◌^◌, ◌<◌, ◌≤◌, Bool, false, eqb, List, [], ◌∷◌, ◌++◌, length, take, drop, replicate, Option, Some, None, refl, sym, ap, ◌∙◌, arith, inl}
-use Rattle.std.specs.Prelude.{IfSome, ◌||◌}
-use Rattle.std.specs.List.{AllByRecursion}
-use Rattle.std.proofs.lemmas.Bool.{lt-ltb, ne_eqb}
+use Rattle.std.{specs.Prelude.IfSome, specs.Prelude.◌||◌, specs.List.AllByRecursion, proofs.lemmas.Bool.lt-ltb, proofs.lemmas.Bool.ne_eqb}
 use Rattle.std.proofs.lemmas.List.{append_assoc, length-append, length-replicate}
-use Rattle.byteorder.specs.Endian.{big_bytes}
-use Rattle.byteorder.specs.Numbers.{length-bytes_high_first}
-use Rattle.of_layers.specs.declared.field.Field.{Field}
-use Rattle.of_oxm.specs.declared.match_field.MatchField.{MatchField}
-use Rattle.of_layers.specs.Fields.{number_of, bytes_of, ones_of}
-use Rattle.of_oxm.specs.MatchFieldWire.{IsEncoded, IsAllowedMask, encoding}
-use Rattle.of_oxm.specs.NormalForm.{kept, with_field, with_kept_field, normal, IsKept, IsKeptMask, IsAscending, IsMatch}
-use Rattle.of_oxm.specs.MatchGrammar.{AreFieldsAfter, encodings, padded, EncodesMatch}
-use Rattle.of_oxm.specs.MatchFieldWire.{is_among}
-use Rattle.of_oxm.specs.Canonical.{written_len, canonical}
+use Rattle.byteorder.specs.{Endian.big_bytes, Numbers.length-bytes_high_first}
+use Rattle.of_layers.specs.{declared.field.Field.Field, Fields.number_of, Fields.bytes_of, Fields.ones_of}
 use Rattle.of_layers.proofs.Table.{number_below, bytes_most, value_below}
-use Rattle.of_wire.proofs.Replacing.{replaced_behind}
+use Rattle.of_oxm.specs.NormalForm.{kept, with_field, with_kept_field, normal, IsKept, IsKeptMask, IsAscending, IsMatch}
+use Rattle.of_oxm.specs.{declared.match_field.MatchField.MatchField, MatchFieldWire.IsEncoded, MatchFieldWire.IsAllowedMask, MatchFieldWire.encoding, MatchFieldWire.is_among}
+use Rattle.of_oxm.specs.{MatchGrammar.AreFieldsAfter, MatchGrammar.encodings, MatchGrammar.padded, MatchGrammar.EncodesMatch, Canonical.written_len, Canonical.canonical}
 use Rattle.of_oxm.proofs.Normal.{among_append}
+use Rattle.of_wire.proofs.Replacing.{replaced_behind}
 
 -- ---- a field of a match has an encoding
 

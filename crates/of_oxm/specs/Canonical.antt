@@ -1,8 +1,7 @@
 -- The one encoding of a match that is written: fields in ascending order, and zeros for padding (OpenFlow 1.3.5, 7.2.3).
 use Rattle.std.specs.Prelude.{ℕ, ◌+◌, ◌-◌, List, ◌∷◌, ◌++◌, length, replicate}
 use Rattle.byteorder.specs.Endian.{big_bytes}
-use Rattle.of_oxm.specs.declared.match_field.MatchField.{MatchField}
-use Rattle.of_oxm.specs.MatchGrammar.{encodings, padded}
+use Rattle.of_oxm.specs.{declared.match_field.MatchField.MatchField, MatchGrammar.encodings, MatchGrammar.padded}
 
 abbrev pub written_len : List MatchField → ℕ
 written_len m = 4 + length (encodings m)

@@ -1,13 +1,9 @@
 -- The bits that a match looks at, field by field (OpenFlow 1.3.5, 5.3 and 7.2.3.5).
 use Rattle.std.specs.Prelude.{◌≡◌, ℕ, ◌==◌, List, Option}
-use Rattle.std.specs.List.{find}
-use Rattle.std.specs.Option.{option_map}
-use Rattle.of_layers.specs.declared.field.Field.{Field}
-use Rattle.of_layers.specs.Fields.{number_of}
+use Rattle.std.specs.{List.find, Option.option_map}
+use Rattle.of_layers.specs.{declared.field.Field.Field, Fields.number_of}
 use Rattle.of_headers.specs.FieldMap.{value, seen}
-use Rattle.of_oxm.specs.declared.match_field.MatchField.{MatchField}
-use Rattle.of_oxm.specs.declared.masks.FieldMask.{FieldMask}
-use Rattle.of_oxm.specs.Relations.{bits_looked_at}
+use Rattle.of_oxm.specs.{declared.match_field.MatchField.MatchField, declared.masks.FieldMask.FieldMask, Relations.bits_looked_at}
 
 -- ---- of a match
 

@@ -1,12 +1,11 @@
 -- One field of a match on the wire: OXM class 0x8000, the field's number (7 bits) and whether a mask follows (1 bit), the length of what follows, the value, and the mask (OpenFlow 1.3.5, 7.2.3.2).
 use Rattle.std.specs.Prelude.{◌≡◌, ℕ, ◌+◌, ◌*◌, ◌/◌, ◌%◌, ◌^◌, ◌<◌, ◌≤◌, ◌==◌, nat_lt, Bool, true, not, ◌&&◌, ◌⊎◌, List, [], ◌∷◌, ◌++◌, length, drop, slice_index, bit_and, Option, Some, None, is_some, IfSome, if◌then◌else◌}
-use Rattle.std.specs.List.{list_any}
-use Rattle.std.specs.Option.{option_map_or}
+use Rattle.std.specs.{List.list_any, Option.option_map_or}
 use Rattle.byteorder.specs.Endian.{big_number, big_bytes}
 use Rattle.of_wire.specs.declared.codes.TheConstants.{OFPBMC_BAD_FIELD, OFPBMC_BAD_LEN, OFPBMC_BAD_MASK, OFPBMC_BAD_VALUE, OFPBMC_BAD_WILDCARDS, OFPBMC_DUP_FIELD}
 use Rattle.of_wire.specs.declared.code.Code.{Code}
-use Rattle.of_layers.specs.declared.field.Field.{Field}
 use Rattle.of_layers.specs.Fields.{number_of, bytes_of, ones_of, is_maskable, field_at}
+use Rattle.of_layers.specs.declared.field.Field.{Field}
 use Rattle.of_oxm.specs.declared.match_field.MatchField.{MatchField}
 
 -- ---- the encoding of a field

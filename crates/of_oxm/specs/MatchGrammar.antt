@@ -2,16 +2,11 @@
 use Rattle.std.specs.Prelude.{◌≡◌, ℕ, ◌+◌, ◌-◌, ◌*◌, ◌/◌, ◌^◌, ◌<◌, ◌==◌, nat_lt, Bool, true, false, not, ◌||◌, List, [], ◌∷◌, ◌++◌, length, take, drop, Option, Some, None, IsSome, Result, Ok, Err}
 use Rattle.std.specs.List.{flat_map}
 use Rattle.byteorder.specs.Endian.{big_number, big_bytes}
-use Rattle.of_wire.specs.declared.codes.TheConstants.{OFPBMC_BAD_LEN, OFPBMC_BAD_PREREQ, OFPBMC_BAD_TYPE}
-use Rattle.of_wire.specs.declared.code.Code.{Code}
-use Rattle.of_wire.specs.declared.code.ReadError.{ReadError}
+use Rattle.of_wire.specs.{declared.codes.TheConstants.OFPBMC_BAD_LEN, declared.codes.TheConstants.OFPBMC_BAD_PREREQ, declared.codes.TheConstants.OFPBMC_BAD_TYPE, declared.code.Code.Code}
+use Rattle.of_wire.specs.{declared.code.ReadError.ReadError, Failures.Fails, Refusals.first_of}
 use Rattle.of_wire.specs.declared.code.ReadError.TheVariants as errors
-use Rattle.of_wire.specs.Failures.{Fails}
-use Rattle.of_wire.specs.Refusals.{first_of}
-use Rattle.of_oxm.specs.declared.match_field.MatchField.{MatchField}
-use Rattle.of_oxm.specs.MatchFieldWire.{IsEncoded, encoding, is_among, field_refusals}
-use Rattle.of_oxm.specs.Prerequisites.{prerequisites_met}
-use Rattle.of_oxm.specs.NormalForm.{normal}
+use Rattle.of_oxm.specs.{declared.match_field.MatchField.MatchField, MatchFieldWire.IsEncoded, MatchFieldWire.encoding, MatchFieldWire.is_among, MatchFieldWire.field_refusals}
+use Rattle.of_oxm.specs.{Prerequisites.prerequisites_met, NormalForm.normal}
 
 -- ---- the fields, in any order
 

@@ -1,16 +1,10 @@
 -- What the bytes of a match say, as a function: the match that they begin with and its padded size, or the code of the first refusal (OpenFlow 1.3.5, 7.2.3 and 7.4.4).
 use Rattle.std.specs.Prelude.{ℕ, ◌+◌, List, [], length, slice_index, Option, Some, None, Result, Ok, Err, if◌then◌else◌}
 use Rattle.std.specs.Option.{option_map}
-use Rattle.of_wire.specs.declared.codes.TheConstants.{OFPBMC_BAD_PREREQ}
-use Rattle.of_wire.specs.declared.code.Code.{Code}
-use Rattle.of_wire.specs.Refusals.{first_of}
-use Rattle.of_wire.specs.Items.{Items, items_from}
+use Rattle.of_wire.specs.{declared.codes.TheConstants.OFPBMC_BAD_PREREQ, declared.code.Code.Code, Refusals.first_of, Items.Items, Items.items_from}
 use Rattle.of_layers.specs.Fields.{field_at}
-use Rattle.of_oxm.specs.declared.match_field.MatchField.{MatchField}
-use Rattle.of_oxm.specs.MatchFieldWire.{number_at, match_field_of, field_refusals}
-use Rattle.of_oxm.specs.MatchGrammar.{match_len, padded, match_body, match_head_refusals}
-use Rattle.of_oxm.specs.NormalForm.{normal}
-use Rattle.of_oxm.specs.Prerequisites.{prerequisites_met}
+use Rattle.of_oxm.specs.{declared.match_field.MatchField.MatchField, MatchFieldWire.number_at, MatchFieldWire.match_field_of, MatchFieldWire.field_refusals}
+use Rattle.of_oxm.specs.{MatchGrammar.match_len, MatchGrammar.padded, MatchGrammar.match_body, MatchGrammar.match_head_refusals, NormalForm.normal, Prerequisites.prerequisites_met}
 
 -- fields as items on the wire
 abbrev pub match_fields : Items MatchField

@@ -1,8 +1,7 @@
 -- What a match means as it is encoded (OpenFlow 1.3.5, 7.2.3.5): each of its fields looks at the bits of its mask, and one whose mask has none looks at nothing.
 use Rattle.std.specs.Prelude.{ℕ, Bool, ◌==◌, ◌||◌, List, Option, Some, None, bit_and, unwrap_or}
 use Rattle.std.specs.List.{list_all}
-use Rattle.of_layers.specs.declared.field.Field.{Field}
-use Rattle.of_layers.specs.Fields.{ones_of}
+use Rattle.of_layers.specs.{declared.field.Field.Field, Fields.ones_of}
 use Rattle.of_oxm.specs.declared.match_field.MatchField.{MatchField}
 
 -- the bits that a field looks at as it is encoded: those of its mask that the field has; without a mask all

@@ -1,11 +1,9 @@
 -- The prerequisites of a field, elsewhere in its match (OpenFlow 1.3.5, 7.2.3.6).
 use Rattle.std.specs.Prelude.{ℕ, ◌==◌, Bool, true, not, ◌&&◌, ◌||◌, List}
 use Rattle.std.specs.List.{list_any, list_all}
-use Rattle.of_layers.specs.declared.field.Field.{Field}
-use Rattle.of_layers.specs.declared.field.Field.TheVariants as fields
-use Rattle.of_layers.specs.declared.field.Prerequisite.{Prerequisite}
 use Rattle.of_layers.specs.declared.field.Prerequisite.TheVariants.{Nothing, Tag, Ip, Ipv4, Ipv6, Arp, Tcp, Udp, Icmpv4, Icmpv6}
-use Rattle.of_layers.specs.Fields.{number_of, prerequisite_of}
+use Rattle.of_layers.specs.{declared.field.Field.Field, declared.field.Prerequisite.Prerequisite, Fields.number_of, Fields.prerequisite_of}
+use Rattle.of_layers.specs.declared.field.Field.TheVariants as fields
 use Rattle.of_oxm.specs.declared.match_field.MatchField.{MatchField}
 
 -- the match asks for this value of the field

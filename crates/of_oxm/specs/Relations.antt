@@ -1,8 +1,7 @@
 -- What a match matches, covers and overlaps (OpenFlow 1.3.5, 5.3 and 6.4). A field map has for each field a value or none.
 use Rattle.std.specs.Prelude.{ℕ, ◌≤◌, Bool, false, not, ◌==◌, ◌&&◌, ◌||◌, List, find, Option, Some, None, bit_and, unwrap_or, IfSome}
 use Rattle.std.specs.List.{list_any, list_all}
-use Rattle.of_layers.specs.declared.field.Field.{Field}
-use Rattle.of_layers.specs.Fields.{number_of, ones_of}
+use Rattle.of_layers.specs.{declared.field.Field.Field, Fields.number_of, Fields.ones_of}
 use Rattle.of_oxm.specs.declared.match_field.MatchField.{MatchField}
 
 -- each value of the map is one of the field's bits

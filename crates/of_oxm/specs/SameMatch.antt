@@ -1,7 +1,6 @@
 -- Whether two matches are one: as many fields, and the same number, value and mask in each place.
 use Rattle.std.specs.Prelude.{◌==◌, ◌&&◌, nat_eq, Bool, List}
-use Rattle.std.specs.Option.{option_eq}
-use Rattle.std.specs.Cmp.Lexicographic.{pointwise}
+use Rattle.std.specs.{Option.option_eq, Cmp.Lexicographic.pointwise}
 use Rattle.of_layers.specs.Fields.{number_of}
 use Rattle.of_oxm.specs.declared.match_field.MatchField.{MatchField}
 

@@ -1,9 +1,7 @@
 //! Matches.
 
 ghost use Rattle.std.specs.Prelude.{◌≡◌, ◌==◌, ◌↔◌, [], length, IfOk, IsTrue};
-ghost use Rattle.of_oxm.specs.InPortMatch.{in_port_match};
-ghost use Rattle.of_oxm.specs.NormalForm.{IsMatch};
-ghost use Rattle.of_oxm.specs.SameMatch.{is_same_match};
+ghost use Rattle.of_oxm.specs.{InPortMatch.in_port_match, NormalForm.IsMatch, SameMatch.is_same_match};
 
 use crate::match_field::MatchField;
 use of_layers::Field;
@@ -21,8 +19,7 @@ pub struct Match {
 
 impl Model for Match {
     ghost use Rattle.std.specs.Prelude.{List};
-    ghost use Rattle.of_oxm.specs.declared.match_field.MatchField.{MatchField};
-    ghost use Rattle.of_oxm.specs.NormalForm.{IsMatch};
+    ghost use Rattle.of_oxm.specs.{declared.match_field.MatchField.MatchField, NormalForm.IsMatch};
 
     ghost Value = { List MatchField };
 

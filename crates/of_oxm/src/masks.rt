@@ -4,9 +4,7 @@ ghost use Rattle.std.specs.Prelude.{◌≡◌, ◌↔◌, ℕ, List, Option, Non
 ghost use Rattle.std.specs.List.{AllByRecursion};
 ghost use Rattle.of_layers.specs.declared.field.Field.{Field};
 ghost use Rattle.of_headers.specs.FieldMap.{value, seen, either};
-ghost use Rattle.of_oxm.specs.declared.match_field.MatchField.{MatchField};
-ghost use Rattle.of_oxm.specs.NormalForm.{IsKept, IsAscending, IsMatch};
-ghost use Rattle.of_oxm.specs.Relations.{matches_map};
+ghost use Rattle.of_oxm.specs.{declared.match_field.MatchField.MatchField, NormalForm.IsKept, NormalForm.IsAscending, NormalForm.IsMatch, Relations.matches_map};
 ghost use Rattle.of_oxm.specs.Masks.{looked_at, value_of, mask_at, Agree};
 
 use crate::flow_match::Match;

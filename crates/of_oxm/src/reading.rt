@@ -1,12 +1,9 @@
 //! Matches from bytes.
 
 ghost use Rattle.std.specs.Prelude.{◌≡◌, ◌++◌, ℕ, ◌≤◌, ◌<◌, List, [], Some, None, Ok, ◌-◌, length, take, drop, IfOk, OnOk, IfErr};
-ghost use Rattle.of_wire.specs.Refusals.{first_of};
-ghost use Rattle.of_wire.specs.Failures.{Fails, Reads};
+ghost use Rattle.of_wire.specs.{Refusals.first_of, Failures.Fails, Failures.Reads, declared.code.Code.Code};
 ghost use Rattle.of_oxm.specs.MatchGrammar.{Fields, IsFaulty, EncodesMatch, IsRefusedMatch, ReadsAs, RefusesAs, match_head_refusals, match_len, padded};
-ghost use Rattle.of_oxm.specs.MatchReading.{match_of};
-ghost use Rattle.of_oxm.specs.declared.match_field.MatchField.{MatchField};
-ghost use Rattle.of_wire.specs.declared.code.Code.{Code};
+ghost use Rattle.of_oxm.specs.{MatchReading.match_of, declared.match_field.MatchField.MatchField};
 
 use crate::field_reading::read_match_field;
 use crate::flow_match::Match;

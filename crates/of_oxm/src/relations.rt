@@ -1,16 +1,11 @@
 //! What a match matches, covers and overlaps.
 
 ghost use Rattle.std.specs.Prelude.{◌≡◌, ℕ, List, Option, true};
-ghost use Rattle.std.specs.List.{list_any, list_all};
-ghost use Rattle.std.specs.Option.{option_copied};
+ghost use Rattle.std.specs.{List.list_any, List.list_all, Option.option_copied};
 ghost use Rattle.of_headers.specs.FieldMap.{value};
 ghost use Rattle.of_oxm.specs.Relations.{bits_looked_at, agrees as agrees_with, first_difference as first_missed, is_within as within, can_both as both_can, IsWithinBits, matches_map, covers_match, overlaps_match};
-ghost use Rattle.of_oxm.specs.NormalForm.{IsMatch, normal};
-ghost use Rattle.of_oxm.specs.Meaning.{are_met};
-ghost use Rattle.of_oxm.specs.Prerequisites.{is_met};
-ghost use Rattle.of_oxm.specs.declared.match_field.MatchField.{MatchField};
-ghost use Rattle.of_layers.specs.declared.field.Field.{Field};
-ghost use Rattle.of_layers.specs.declared.field.Prerequisite.{Prerequisite};
+ghost use Rattle.of_oxm.specs.{NormalForm.IsMatch, NormalForm.normal, Meaning.are_met, Prerequisites.is_met, declared.match_field.MatchField.MatchField};
+ghost use Rattle.of_layers.specs.{declared.field.Field.Field, declared.field.Prerequisite.Prerequisite};
 
 use crate::flow_match::Match;
 use crate::match_field::MatchField;

@@ -2,9 +2,7 @@
 
 ghost use Rattle.std.specs.Prelude.{◌≡◌, ◌≤◌, ◌<◌, ◌++◌, length, OnOk, IfOk};
 ghost use Rattle.std.specs.List.{AllByRecursion};
-ghost use Rattle.of_oxm.specs.MatchFieldWire.{IsEncoded, encoding};
-ghost use Rattle.of_oxm.specs.MatchGrammar.{EncodesMatch, encodings};
-ghost use Rattle.of_oxm.specs.Canonical.{canonical};
+ghost use Rattle.of_oxm.specs.{MatchFieldWire.IsEncoded, MatchFieldWire.encoding, MatchGrammar.EncodesMatch, MatchGrammar.encodings, Canonical.canonical};
 
 use crate::flow_match::Match;
 use crate::match_field::MatchField;

@@ -1,27 +1,16 @@
 -- A path is put to what was found.
 use Rattle.std.proofs.Common.{◌≡◌, ◌<◌, ◌^◌, ℕ, zero, suc, List, [], ◌∷◌, ◌++◌, length, get_or, set, map, refl, sym, ap, subst, ◌∙◌, arith, inl, inr, ◌⊎◌}
-use Rattle.std.specs.Global.{Vec}
-use Rattle.std.specs.List.{Contains}
-use Rattle.std.proofs.lemmas.List.{map-append}
+use Rattle.std.{specs.Global.Vec, specs.List.Contains, proofs.lemmas.List.map-append}
 use Rattle.std.proofs.lemmas.List.Elements.{Contains-append_left, Contains-push, Contains-push_cases}
 use Rattle.of_rewrite.specs.Frames.{IsFrame}
 use Rattle.of_oxm.specs.declared.match_field.MatchField.{MatchField}
-use Rattle.of_machine.specs.declared.data.Step.{Step}
-use Rattle.of_machine.specs.TheWorld.{TheWorld}
-use Rattle.of_symbolic_run.specs.declared.finding.FrameFound.TheVariants.{Undecided}
-use Rattle.of_symbolic_run.specs.FrameSets.{FindsFrame, InFrames}
-use Rattle.of_symbolic_run.specs.Received.{IsReceivedAt, items_at}
-use Rattle.of_paths.specs.declared.path.Merging.{Merging}
-use Rattle.of_paths.specs.declared.path.Merging.TheVariants.{Each, SameWay}
-use Rattle.of_paths.specs.declared.path.Path.{Path}
-use Rattle.of_paths.specs.declared.path.PathClass.{PathClass}
-use Rattle.of_paths.specs.declared.path.Paths.{Paths}
-use Rattle.of_paths.specs.declared.path.UndecidedFrames.{UndecidedFrames}
+use Rattle.of_machine.specs.{declared.data.Step.Step, TheWorld.TheWorld}
+use Rattle.of_symbolic_run.specs.{declared.finding.FrameFound.TheVariants.Undecided, FrameSets.FindsFrame, FrameSets.InFrames, Received.IsReceivedAt, Received.items_at}
 use Rattle.of_paths.specs.Paths.{AreMerged, InFirstPath, InPaths, IsPath, IsPathClass}
-use Rattle.of_paths.specs.Reasons.{AreUndecided}
 use Rattle.of_paths.specs.SoFar.{AreFoundSoFar, IsFoundIn, IsOtherWay, PutsAlone, PutsPath, unfound}
-use Rattle.of_paths.specs.Ways.{AreApart, class_way, paths_way, way_of}
-use Rattle.of_paths.proofs.WayLemmas.{apart_more}
+use Rattle.of_paths.specs.{declared.path.Merging.Merging, declared.path.Merging.TheVariants.Each, declared.path.Merging.TheVariants.SameWay, declared.path.Path.Path}
+use Rattle.of_paths.specs.{declared.path.PathClass.PathClass, declared.path.Paths.Paths, declared.path.UndecidedFrames.UndecidedFrames, Reasons.AreUndecided}
+use Rattle.of_paths.{specs.Ways.AreApart, specs.Ways.class_way, specs.Ways.paths_way, specs.Ways.way_of, proofs.WayLemmas.apart_more}
 
 none_contained : {A : Type 0} (x : A) → Contains {X = A} [] x → ⊥
 none_contained x h = absurd (omega (arith, h.1))

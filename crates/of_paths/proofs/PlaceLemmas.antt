@@ -1,35 +1,24 @@
 -- Where the items of a run go follows from its steps, and from the port by which the packet came in.
 use Rattle.std.proofs.Common.{◌≡◌, ℕ, zero, suc, eqb, Bool, true, false, cond, List, [], ◌∷◌, ◌++◌, length, Option, Some, None, refl, sym, ap, subst, ◌∙◌}
-use Rattle.std.specs.Prelude.{◌||◌, map}
-use Rattle.std.specs.List.{AllByRecursion, flat_map, list_any}
-use Rattle.std.proofs.lemmas.List.{append-nil, length-map, map-append}
-use Rattle.std.proofs.lemmas.List.Concat.{flat_map-append}
+use Rattle.std.specs.{Prelude.◌||◌, Prelude.map, List.AllByRecursion, List.flat_map, List.list_any}
+use Rattle.std.proofs.{lemmas.List.append-nil, lemmas.List.length-map, lemmas.List.map-append, lemmas.List.Concat.flat_map-append}
 use Rattle.of_wire.specs.declared.limits.TheConstants.{OFPP_ALL, OFPP_CONTROLLER, OFPP_FLOOD, OFPP_IN_PORT, OFPP_TABLE}
 use Rattle.of_layers.specs.Reading.{layers_of}
-use Rattle.of_rewrite.specs.declared.frame.Ttl.{Ttl}
-use Rattle.of_rewrite.specs.declared.frame.Ttl.TheVariants.{Absent, Done, Expired}
+use Rattle.of_rewrite.specs.{declared.frame.Ttl.Ttl, declared.frame.Ttl.TheVariants.Absent, declared.frame.Ttl.TheVariants.Done, declared.frame.Ttl.TheVariants.Expired}
 use Rattle.of_rewrite.specs.TimeToLive.{dec_ttl_result, ttl_of}
-use Rattle.of_actions.specs.declared.action.Action.{Action}
 use Rattle.of_actions.specs.declared.action.Action.TheVariants.{DecNwTtl, Group, Output, PopVlan, PushVlan, SetField, SetNwTtl}
-use Rattle.of_actions.specs.declared.instruction.Instruction.{Instruction}
 use Rattle.of_actions.specs.declared.instruction.Instruction.TheVariants.{Apply, Clear, Goto, Metadata, Write}
+use Rattle.of_actions.specs.{declared.action.Action.Action, declared.instruction.Instruction.Instruction}
 use Rattle.of_table.specs.declared.flow.Flow.{Flow}
-use Rattle.of_ports.specs.declared.port.Port.{Port}
-use Rattle.of_ports.specs.Ports.{may_send, other_ports, port_at}
-use Rattle.of_machine.specs.declared.data.Packet.{Packet}
-use Rattle.of_machine.specs.declared.data.Item.{Item}
-use Rattle.of_machine.specs.declared.data.Item.TheVariants.{PacketIn, Sent}
-use Rattle.of_machine.specs.declared.data.Step.{Step}
-use Rattle.of_machine.specs.declared.data.Step.TheVariants as steps
-use Rattle.of_machine.specs.TheWorld.{TheWorld}
+use Rattle.of_ports.specs.{declared.port.Port.Port, Ports.may_send, Ports.other_ports, Ports.port_at}
 use Rattle.of_machine.specs.Rows.{Act, Do, Emitted, Lookup, Row, RunSet, Task, Work, copies, dec_ttl_row, emission, empty_emitted, entering, entry_row, flooded, group_action_row, key_of, lookup_row, output_reason, output_row, packet_in_emitted, row, task, to_port}
 use Rattle.of_machine.specs.Runs.{Machine, first_step, or_end, run_of, starting, step, taken, until_none}
-use Rattle.of_machine.specs.Weights.{task_weight}
+use Rattle.of_machine.specs.{declared.data.Packet.Packet, declared.data.Item.Item, declared.data.Item.TheVariants.PacketIn, declared.data.Item.TheVariants.Sent, declared.data.Step.Step}
+use Rattle.of_machine.specs.{TheWorld.TheWorld, Weights.task_weight}
+use Rattle.of_machine.specs.declared.data.Step.TheVariants as steps
 use Rattle.of_symbolic_run.specs.Received.{items_at}
-use Rattle.of_paths.specs.declared.destination.Destination.{Destination}
+use Rattle.of_paths.specs.{declared.destination.Destination.Destination, Places.lead_to, Places.leaves_to, Places.place_of_item, Ways.line_but_entry, Ways.lines_at, Ways.way_of}
 use Rattle.of_paths.specs.declared.destination.Destination.TheVariants as places
-use Rattle.of_paths.specs.Places.{lead_to, leaves_to, place_of_item}
-use Rattle.of_paths.specs.Ways.{line_but_entry, lines_at, way_of}
 
 -- ---- the places to which a step sends a packet that came in by a port
 

@@ -1,33 +1,16 @@
 -- The paths of the frames of each port: they go to the same places as the frame of their class.
 use Rattle.std.proofs.Common.{◌≡◌, ◌<◌, ◌≤◌, ◌+◌, ◌^◌, ℕ, suc, eqb, Bool, true, false, cond, List, [], ◌∷◌, ◌++◌, length, get_or, map, filter, take, refl, sym, ap, subst, ◌∙◌, arith}
-use Rattle.std.specs.Prelude.{◌&&◌, bit_and}
-use Rattle.std.specs.List.{Contains}
-use Rattle.std.proofs.Math.Seq.{take-suc}
-use Rattle.std.proofs.lemmas.Bool.{eq-eqb, eqb-true}
-use Rattle.std.proofs.lemmas.List.{append-nil, append_assoc, map-append, take_all}
-use Rattle.std.proofs.lemmas.List.Elements.{filter-append}
-use Rattle.of_layers.specs.Fields.{ones_of}
-use Rattle.of_layers.specs.declared.field.Field.TheVariants.{InPort}
-use Rattle.of_oxm.specs.declared.match_field.MatchField.{MatchField}
-use Rattle.of_oxm.specs.Relations.{matches_map}
-use Rattle.of_ports.specs.declared.port.Port.{Port}
-use Rattle.of_ports.specs.Ports.{may_receive, number_of_port}
+use Rattle.std.{specs.Prelude.◌&&◌, specs.Prelude.bit_and, specs.List.Contains, proofs.Math.Seq.take-suc, proofs.lemmas.Bool.eq-eqb, proofs.lemmas.Bool.eqb-true}
+use Rattle.std.proofs.{lemmas.List.append-nil, lemmas.List.append_assoc, lemmas.List.map-append, lemmas.List.take_all, lemmas.List.Elements.filter-append}
+use Rattle.of_layers.specs.{Fields.ones_of, declared.field.Field.TheVariants.InPort}
+use Rattle.of_oxm.specs.{declared.match_field.MatchField.MatchField, Relations.matches_map}
+use Rattle.of_ports.specs.{declared.port.Port.Port, Ports.may_receive, Ports.number_of_port}
 use Rattle.of_machine.specs.TheWorld.{TheWorld}
 use Rattle.of_symbolic.specs.Parts.{received_fields}
-use Rattle.of_symbolic_run.specs.FrameSets.{InFrames}
-use Rattle.of_symbolic_run.specs.PortNumbers.{came_in_by}
-use Rattle.of_symbolic_run.specs.Received.{IsReceivedAt, items_at}
-use Rattle.of_symbolic_run.proofs.ConditionLemmas.{within_port}
-use Rattle.of_paths.specs.declared.path.Merging.{Merging}
-use Rattle.of_paths.specs.declared.path.Path.{Path}
-use Rattle.of_paths.specs.declared.path.PathClass.{PathClass}
-use Rattle.of_paths.specs.declared.path.Paths.{Paths}
-use Rattle.of_paths.specs.declared.path.UndecidedFrames.{UndecidedFrames}
-use Rattle.of_paths.specs.EachPort.{ArePathsOfPorts, receiving_numbers}
-use Rattle.of_paths.specs.Paths.{ArePaths, InFirstPath, InPaths, IsPathClass}
-use Rattle.of_paths.specs.Places.{place_of_item}
-use Rattle.of_paths.specs.Ways.{class_way, lines_at, way_of}
-use Rattle.of_paths.proofs.PlaceLemmas.{same_places}
+use Rattle.of_symbolic_run.{specs.FrameSets.InFrames, specs.PortNumbers.came_in_by, specs.Received.IsReceivedAt, specs.Received.items_at, proofs.ConditionLemmas.within_port}
+use Rattle.of_paths.specs.{declared.path.Merging.Merging, declared.path.Path.Path, declared.path.PathClass.PathClass, declared.path.Paths.Paths, declared.path.UndecidedFrames.UndecidedFrames}
+use Rattle.of_paths.specs.{EachPort.ArePathsOfPorts, EachPort.receiving_numbers, Paths.ArePaths, Paths.InFirstPath, Paths.InPaths, Paths.IsPathClass, Places.place_of_item}
+use Rattle.of_paths.{specs.Ways.class_way, specs.Ways.lines_at, specs.Ways.way_of, proofs.PlaceLemmas.same_places}
 
 -- ---- the condition that a frame came in by a port
 

@@ -1,15 +1,11 @@
 -- The states of the sets that are left.
 use Rattle.std.proofs.Common.{◌≡◌, ◌<◌, ℕ, zero, suc, List, [], ◌∷◌, ◌++◌, sym, subst, arith, inl, inr, ◌⊎◌, reverse}
-use Rattle.std.specs.List.{Contains}
-use Rattle.std.proofs.lemmas.List.{reverse-append}
+use Rattle.std.{specs.List.Contains, proofs.lemmas.List.reverse-append}
 use Rattle.std.proofs.lemmas.List.Elements.{Contains-append_cases, Contains-append_left, Contains-push, Contains-push_cases}
 use Rattle.of_oxm.specs.declared.match_field.MatchField.{MatchField}
 use Rattle.of_machine.specs.TheWorld.{TheWorld}
-use Rattle.of_symbolic_run.specs.declared.dividing.Case.{Case}
-use Rattle.of_symbolic_run.specs.NextStates.{AreNextStates, IsFirstState, IsStateAfter}
-use Rattle.of_paths.specs.declared.path.Path.{Path}
-use Rattle.of_paths.specs.Paths.{IsOfRun}
-use Rattle.of_paths.specs.Reasons.{AreCaseSteps, AreLeftAfter, IsCaseStep}
+use Rattle.of_symbolic_run.specs.{declared.dividing.Case.Case, NextStates.AreNextStates, NextStates.IsFirstState, NextStates.IsStateAfter}
+use Rattle.of_paths.specs.{declared.path.Path.Path, Paths.IsOfRun, Reasons.AreCaseSteps, Reasons.AreLeftAfter, Reasons.IsCaseStep}
 
 -- ---- the other way round
 

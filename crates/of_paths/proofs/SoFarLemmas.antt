@@ -1,39 +1,18 @@
 -- What is known of the frames while cases are left.
 use Rattle.std.proofs.Common.{◌≡◌, ◌<◌, ◌≤◌, ◌+◌, ◌-◌, ℕ, true, List, [], ◌∷◌, ◌++◌, length, Result, Ok, Err, refl, sym, subst, arith, inl, inr, ◌⊎◌, reverse}
-use Rattle.std.specs.Prelude.{OnOk, if◌then◌else◌, is_ok}
-use Rattle.std.specs.Global.{Vec}
-use Rattle.std.specs.List.{Contains}
 use Rattle.std.proofs.lemmas.List.Elements.{Contains-append_cases, Contains-append_left, Contains-append_right, Contains-push, Contains-push_cases}
-use Rattle.of_oxm.specs.declared.match_field.MatchField.{MatchField}
-use Rattle.of_oxm.specs.Relations.{matches_map}
-use Rattle.of_machine.specs.TheWorld.{TheWorld}
-use Rattle.of_machine.specs.Rows.{Lookup, entering}
-use Rattle.of_machine.specs.Runs.{run_of}
-use Rattle.of_machine.specs.Sound.{IsSound}
+use Rattle.std.specs.{Prelude.OnOk, Prelude.if◌then◌else◌, Prelude.is_ok, Global.Vec, List.Contains}
+use Rattle.of_oxm.specs.{declared.match_field.MatchField.MatchField, Relations.matches_map}
+use Rattle.of_machine.specs.{TheWorld.TheWorld, Rows.Lookup, Rows.entering, Runs.run_of, Sound.IsSound}
 use Rattle.of_symbolic.specs.Parts.{received_fields}
-use Rattle.of_symbolic_run.specs.declared.dividing.Case.{Case}
-use Rattle.of_symbolic_run.specs.declared.state.SymbolicState.{SymbolicState}
-use Rattle.of_symbolic_run.specs.Cases.{AreCases}
-use Rattle.of_symbolic_run.specs.declared.finding.FrameFound.TheVariants.{Undecided}
-use Rattle.of_symbolic_run.specs.declared.frame_set.FrameSet.{FrameSet}
-use Rattle.of_symbolic_run.specs.FrameSets.{FindsFrame, InFrames}
-use Rattle.of_symbolic_run.specs.NextStates.{AreNextStates, IsNextState}
-use Rattle.of_symbolic_run.specs.States.{IsAt, items_for}
-use Rattle.of_symbolic_run.specs.Received.{AreReceived, IsReceivedAt}
-use Rattle.of_paths.specs.declared.path.Merging.{Merging}
-use Rattle.of_paths.specs.declared.path.Merging.TheVariants.{Each, SameWay}
-use Rattle.of_paths.specs.declared.path.Path.{Path}
-use Rattle.of_paths.specs.declared.path.Paths.{Paths}
-use Rattle.of_paths.specs.declared.path.PathClass.{PathClass}
-use Rattle.of_paths.specs.declared.path.UndecidedFrames.{UndecidedFrames}
-use Rattle.of_paths.specs.declared.path.WhyUndecided.TheVariants.{Steps}
-use Rattle.of_paths.specs.Paths.{ArePaths, AreMerged}
+use Rattle.of_symbolic_run.specs.{declared.dividing.Case.Case, declared.state.SymbolicState.SymbolicState, Cases.AreCases, declared.finding.FrameFound.TheVariants.Undecided}
+use Rattle.of_symbolic_run.specs.{declared.frame_set.FrameSet.FrameSet, FrameSets.FindsFrame, FrameSets.InFrames, NextStates.AreNextStates, NextStates.IsNextState, States.IsAt, States.items_for}
+use Rattle.of_symbolic_run.{specs.Received.AreReceived, specs.Received.IsReceivedAt, proofs.NextLemmas.one_apart, proofs.ReceivedLemmas.fewer_received}
 use Rattle.of_paths.specs.Reasons.{AreLeftAfter, AreMatched, AreUndecided, IsFirstCase, IsReason, IsStateOfRuns}
 use Rattle.of_paths.specs.SoFar.{ArePathsSoFar, AreRunsOf, InCases, IsFoundIn, PutsPath, unfound}
-use Rattle.of_symbolic_run.proofs.NextLemmas.{one_apart}
-use Rattle.of_symbolic_run.proofs.ReceivedLemmas.{fewer_received}
-use Rattle.of_paths.proofs.FoundLemmas.{found_undecided, last_undecided, more_undecided}
-use Rattle.of_paths.proofs.ReachedLemmas.{from_reverse, last_of_run, to_reverse}
+use Rattle.of_paths.specs.{declared.path.Merging.Merging, declared.path.Merging.TheVariants.Each, declared.path.Merging.TheVariants.SameWay, declared.path.Path.Path, declared.path.Paths.Paths}
+use Rattle.of_paths.specs.{declared.path.PathClass.PathClass, declared.path.UndecidedFrames.UndecidedFrames, declared.path.WhyUndecided.TheVariants.Steps, Paths.ArePaths, Paths.AreMerged}
+use Rattle.of_paths.proofs.{FoundLemmas.found_undecided, FoundLemmas.last_undecided, FoundLemmas.more_undecided, ReachedLemmas.from_reverse, ReachedLemmas.last_of_run, ReachedLemmas.to_reverse}
 
 pub on_appended : {X Y E : Type 0} (r : Result Y E) (new old more : List X) (Q : Type 0) → new ≡ (if is_ok r then old ++ more else old) → (new ≡ old ++ more → Q) → OnOk r Q
 on_appended (Ok x) new old more Q is f = f is

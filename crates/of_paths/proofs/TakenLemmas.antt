@@ -2,10 +2,7 @@
 use Rattle.std.proofs.Common.{◌≡◌, ◌≤◌, ◌+◌, ℕ, suc, List, [], ◌∷◌, ◌++◌, refl, reverse, subst, arith}
 use Rattle.of_oxm.specs.declared.match_field.MatchField.{MatchField}
 use Rattle.of_machine.specs.TheWorld.{TheWorld}
-use Rattle.of_symbolic_run.specs.declared.dividing.Case.{Case}
-use Rattle.of_symbolic_run.specs.Cases.{AreCases}
-use Rattle.of_symbolic_run.specs.NextStates.{AreNextStates}
-use Rattle.of_symbolic_run.specs.Sides.{IsUnknownLookup}
+use Rattle.of_symbolic_run.specs.{declared.dividing.Case.Case, Cases.AreCases, NextStates.AreNextStates, Sides.IsUnknownLookup}
 use Rattle.of_paths.specs.Reasons.{AreCaseSteps, AreLeftAfter, IsCaseStep}
 
 pub at_most : (taken left steps : ℕ) → taken + left ≡ steps → taken ≤ steps

@@ -1,14 +1,9 @@
 -- The ways of classes.
 use Rattle.std.proofs.Common.{◌≡◌, ◌<◌, ◌≤◌, ◌+◌, ℕ, zero, suc, List, [], ◌∷◌, ◌++◌, length, get_or, map, Some, sym, ap, ◌∙◌, arith, inl, inr, ◌⊎◌}
-use Rattle.std.specs.Prelude.{slice_get}
-use Rattle.std.specs.List.{Contains}
-use Rattle.std.proofs.lemmas.List.Elements.{Contains-push_cases}
-use Rattle.std.proofs.lemmas.List.{length-map}
-use Rattle.std.proofs.lemmas.Option.{slice_get-get_or}
+use Rattle.std.{specs.Prelude.slice_get, specs.List.Contains, proofs.lemmas.List.Elements.Contains-push_cases, proofs.lemmas.List.length-map, proofs.lemmas.Option.slice_get-get_or}
 use Rattle.std.proofs.Math.Nat.{eq-or-lt_of_le}
 use Rattle.of_machine.specs.declared.data.Step.{Step}
-use Rattle.of_paths.specs.declared.path.PathClass.{PathClass}
-use Rattle.of_paths.specs.Ways.{AreApart, class_way}
+use Rattle.of_paths.specs.{declared.path.PathClass.PathClass, Ways.AreApart, Ways.class_way}
 
 -- the way of the class at a place
 pub way_at : (cs : List PathClass) (i : ℕ) (x : PathClass) → x ≡ get_or cs i x → i < length cs → slice_get (map class_way cs) i ≡ Some (class_way x)

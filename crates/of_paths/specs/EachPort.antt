@@ -1,15 +1,10 @@
 -- THE PATHS OF THE FRAMES OF EACH PORT, divided for each port apart (OpenFlow 1.3.5, 5.1): frames of one way that come in by one port go to the same places.
 use Rattle.std.specs.Prelude.{◌≡◌, ℕ, List, [], ◌∷◌, ◌++◌, filter, map}
 use Rattle.of_oxm.specs.declared.match_field.MatchField.{MatchField}
-use Rattle.of_ports.specs.declared.port.Port.{Port}
-use Rattle.of_ports.specs.Ports.{may_receive, number_of_port}
+use Rattle.of_ports.specs.{declared.port.Port.Port, Ports.may_receive, Ports.number_of_port}
 use Rattle.of_machine.specs.TheWorld.{TheWorld}
 use Rattle.of_symbolic_run.specs.PortNumbers.{came_in_by}
-use Rattle.of_paths.specs.declared.path.Merging.{Merging}
-use Rattle.of_paths.specs.declared.path.PathClass.{PathClass}
-use Rattle.of_paths.specs.declared.path.Paths.{Paths}
-use Rattle.of_paths.specs.declared.path.UndecidedFrames.{UndecidedFrames}
-use Rattle.of_paths.specs.Paths.{ArePaths}
+use Rattle.of_paths.specs.{declared.path.Merging.Merging, declared.path.PathClass.PathClass, declared.path.Paths.Paths, declared.path.UndecidedFrames.UndecidedFrames, Paths.ArePaths}
 
 -- the ports that receive, by number, in order
 abbrev pub receiving_numbers : List Port → List ℕ

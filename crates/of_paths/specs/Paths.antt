@@ -1,22 +1,12 @@
 -- THE PATHS OF ALL FRAMES THAT A SWITCH RECEIVES, in classes: those of one way together, or each alone (OpenFlow 1.3.5, 5.1).
 use Rattle.std.specs.Prelude.{◌≡◌, ◌<◌, ◌^◌, ℕ, ◌⊎◌, List, [], ◌∷◌, length, map, true}
 use Rattle.std.specs.List.{Contains}
-use Rattle.of_oxm.specs.declared.match_field.MatchField.{MatchField}
-use Rattle.of_oxm.specs.Relations.{matches_map}
+use Rattle.of_oxm.specs.{declared.match_field.MatchField.MatchField, Relations.matches_map}
 use Rattle.of_machine.specs.TheWorld.{TheWorld}
 use Rattle.of_symbolic.specs.Parts.{received_fields}
-use Rattle.of_symbolic_run.specs.declared.state.SymbolicState.{SymbolicState}
-use Rattle.of_symbolic_run.specs.FrameSets.{InFrames}
-use Rattle.of_symbolic_run.specs.NextStates.{IsStateAfter}
-use Rattle.of_symbolic_run.specs.Received.{IsReceivedAt, items_at}
-use Rattle.of_symbolic_run.specs.States.{items_for}
-use Rattle.of_paths.specs.declared.path.Merging.{Merging}
-use Rattle.of_paths.specs.declared.path.Merging.TheVariants.{Each, SameWay}
-use Rattle.of_paths.specs.declared.path.Path.{Path}
-use Rattle.of_paths.specs.declared.path.PathClass.{PathClass}
-use Rattle.of_paths.specs.declared.path.Paths.{Paths}
-use Rattle.of_paths.specs.declared.path.UndecidedFrames.{UndecidedFrames}
-use Rattle.of_paths.specs.Reasons.{AreMatched, AreUndecided}
+use Rattle.of_symbolic_run.specs.{declared.state.SymbolicState.SymbolicState, FrameSets.InFrames, NextStates.IsStateAfter, Received.IsReceivedAt, Received.items_at, States.items_for}
+use Rattle.of_paths.specs.{declared.path.Merging.Merging, declared.path.Merging.TheVariants.Each, declared.path.Merging.TheVariants.SameWay, declared.path.Path.Path}
+use Rattle.of_paths.specs.{declared.path.PathClass.PathClass, declared.path.Paths.Paths, declared.path.UndecidedFrames.UndecidedFrames, Reasons.AreMatched, Reasons.AreUndecided}
 use Rattle.of_paths.specs.Ways.{AreApart, class_way, lines_at, way_of}
 
 -- its steps and what they emit are those of a state that steps of a run lead to, whether or not a frame takes them, and that has no packets

@@ -1,8 +1,7 @@
 -- WHERE FRAMES GO: out of a port, or to the controller (OpenFlow 1.3.5, 5.12).
 use Rattle.std.specs.Prelude.{◌==◌, Bool, true, false, List, length}
 use Rattle.std.specs.List.{list_any}
-use Rattle.of_machine.specs.declared.data.Item.{Item}
-use Rattle.of_machine.specs.declared.data.Item.TheVariants.{PacketIn, Sent}
+use Rattle.of_machine.specs.{declared.data.Item.Item, declared.data.Item.TheVariants.PacketIn, declared.data.Item.TheVariants.Sent}
 use Rattle.of_paths.specs.declared.destination.Destination.{Destination}
 use Rattle.of_paths.specs.declared.destination.Destination.TheVariants.{Controller, Nothing, Port}
 

@@ -2,21 +2,13 @@
 use Rattle.std.specs.Prelude.{◌≡◌, ◌≤◌, ◌++◌, ℕ, zero, suc, List, [], ◌∷◌, reverse, true}
 use Rattle.std.specs.List.{Contains}
 use Rattle.of_rewrite.specs.Frames.{IsFrame}
-use Rattle.of_oxm.specs.declared.match_field.MatchField.{MatchField}
-use Rattle.of_oxm.specs.Relations.{matches_map}
+use Rattle.of_oxm.specs.{declared.match_field.MatchField.MatchField, Relations.matches_map}
 use Rattle.of_machine.specs.TheWorld.{TheWorld}
 use Rattle.of_symbolic.specs.Parts.{received_fields}
-use Rattle.of_symbolic_run.specs.declared.dividing.Case.{Case}
-use Rattle.of_symbolic_run.specs.declared.frame_set.FrameSet.{FrameSet}
-use Rattle.of_symbolic_run.specs.Cases.{AreCases}
+use Rattle.of_symbolic_run.specs.{declared.dividing.Case.Case, declared.frame_set.FrameSet.FrameSet, Cases.AreCases, FrameSets.FindsFrame, FrameSets.InFrames}
+use Rattle.of_symbolic_run.specs.{NextStates.AreNextStates, NextStates.IsFirstState, States.IsAt, Received.AreReceived, Received.IsReceivedAt, Sides.IsUnknownLookup}
 use Rattle.of_symbolic_run.specs.declared.finding.FrameFound.TheVariants as found
-use Rattle.of_symbolic_run.specs.FrameSets.{FindsFrame, InFrames}
-use Rattle.of_symbolic_run.specs.NextStates.{AreNextStates, IsFirstState}
-use Rattle.of_symbolic_run.specs.States.{IsAt}
-use Rattle.of_symbolic_run.specs.Received.{AreReceived, IsReceivedAt}
-use Rattle.of_symbolic_run.specs.Sides.{IsUnknownLookup}
-use Rattle.of_paths.specs.declared.path.UndecidedFrames.{UndecidedFrames}
-use Rattle.of_paths.specs.declared.path.WhyUndecided.{WhyUndecided}
+use Rattle.of_paths.specs.{declared.path.UndecidedFrames.UndecidedFrames, declared.path.WhyUndecided.WhyUndecided}
 use Rattle.of_paths.specs.declared.path.WhyUndecided.TheVariants as why
 
 -- each frame of the set is one that conditions match, and comes in by a port that receives

@@ -1,30 +1,18 @@
 -- For contracts inside this crate: what is known of the frames while some runs are not done.
 use Rattle.std.specs.Prelude.{◌≡◌, ℕ, ◌⊎◌, List, [], map, true, ⊤}
 use Rattle.std.specs.List.{Contains}
-use Rattle.of_oxm.specs.declared.match_field.MatchField.{MatchField}
-use Rattle.of_oxm.specs.Relations.{matches_map}
+use Rattle.of_oxm.specs.{declared.match_field.MatchField.MatchField, Relations.matches_map}
 use Rattle.of_machine.specs.TheWorld.{TheWorld}
 use Rattle.of_symbolic.specs.Parts.{received_fields}
-use Rattle.of_symbolic_run.specs.declared.dividing.Case.{Case}
-use Rattle.of_symbolic_run.specs.Cases.{AreCases}
+use Rattle.of_symbolic_run.specs.{declared.dividing.Case.Case, Cases.AreCases, FrameSets.FindsFrame, FrameSets.InFrames, NextStates.AreNextStates, Received.IsReceivedAt, Received.items_at}
+use Rattle.of_symbolic_run.specs.{Sides.IsUnknownLookup, States.items_for}
 use Rattle.of_symbolic_run.specs.declared.finding.FrameFound.TheVariants as found
-use Rattle.of_symbolic_run.specs.FrameSets.{FindsFrame, InFrames}
-use Rattle.of_symbolic_run.specs.NextStates.{AreNextStates}
-use Rattle.of_symbolic_run.specs.Received.{IsReceivedAt, items_at}
-use Rattle.of_symbolic_run.specs.Sides.{IsUnknownLookup}
-use Rattle.of_symbolic_run.specs.States.{items_for}
-use Rattle.of_paths.specs.declared.path.Merging.{Merging}
-use Rattle.of_paths.specs.declared.path.Merging.TheVariants.{Each, SameWay}
-use Rattle.of_paths.specs.declared.path.Path.{Path}
-use Rattle.of_paths.specs.declared.path.PathClass.{PathClass}
-use Rattle.of_paths.specs.declared.path.Paths.{Paths}
-use Rattle.of_paths.specs.declared.path.UndecidedFrames.{UndecidedFrames}
-use Rattle.of_paths.specs.declared.path.WhyUndecided.TheVariants.{Search, UnknownTag}
-use Rattle.of_paths.specs.declared.stepping.Next.{Next}
-use Rattle.of_paths.specs.declared.stepping.Next.TheVariants as next
 use Rattle.of_paths.specs.Paths.{AreMerged, InClasses, InUndecidedFrames, IsPath, IsPathClass}
-use Rattle.of_paths.specs.Reasons.{AreMatched, AreUndecided, IsStateOfRuns}
-use Rattle.of_paths.specs.Ways.{class_way, lines_at, way_of}
+use Rattle.of_paths.specs.{declared.path.Merging.Merging, declared.path.Merging.TheVariants.Each, declared.path.Merging.TheVariants.SameWay, declared.path.Path.Path}
+use Rattle.of_paths.specs.{declared.path.PathClass.PathClass, declared.path.Paths.Paths, declared.path.UndecidedFrames.UndecidedFrames}
+use Rattle.of_paths.specs.{declared.path.WhyUndecided.TheVariants.Search, declared.path.WhyUndecided.TheVariants.UnknownTag, declared.stepping.Next.Next}
+use Rattle.of_paths.specs.{Reasons.AreMatched, Reasons.AreUndecided, Reasons.IsStateOfRuns, Ways.class_way, Ways.lines_at, Ways.way_of}
+use Rattle.of_paths.specs.declared.stepping.Next.TheVariants as next
 
 abbrev pub InCases : List Case → List ℕ → ℕ → Type 0
 InCases cases frame port = (c : Case) × Contains cases c × InFrames c.frames frame port

@@ -1,13 +1,8 @@
 -- THE WAY OF A FRAME: its steps without which entries it hits, so that entries that say the same give the same way (OpenFlow 1.3.5, 5.1).
 use Rattle.std.specs.Prelude.{ℕ, List, [], ◌∷◌, map, ⊤}
 use Rattle.std.specs.List.{Contains}
-use Rattle.of_machine.specs.declared.data.Step.{Step}
-use Rattle.of_machine.specs.declared.data.Step.TheVariants.{Entry}
-use Rattle.of_machine.specs.TheWorld.{TheWorld}
-use Rattle.of_machine.specs.Rows.{Lookup, entering}
-use Rattle.of_machine.specs.Runs.{run_of}
-use Rattle.of_paths.specs.declared.path.Path.{Path}
-use Rattle.of_paths.specs.declared.path.PathClass.{PathClass}
+use Rattle.of_machine.specs.{declared.data.Step.Step, declared.data.Step.TheVariants.Entry, TheWorld.TheWorld, Rows.Lookup, Rows.entering, Runs.run_of}
+use Rattle.of_paths.specs.{declared.path.Path.Path, declared.path.PathClass.PathClass}
 
 -- the steps of the run of a frame, in order
 abbrev pub lines_at : TheWorld → List ℕ → ℕ → List Step

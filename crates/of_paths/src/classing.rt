@@ -1,14 +1,9 @@
 //! Paths are put into classes.
 ghost use Rattle.std.specs.Prelude.{◌≡◌, ◌≤◌, ◌++◌, ◌∷◌, [], ℕ, OnOk, length};
 ghost use Rattle.of_rewrite.specs.Frames.{IsFrame};
-ghost use Rattle.of_datapath.specs.Datapath.{world_of};
-ghost use Rattle.of_datapath.specs.Numbers.{forwarding_of};
-ghost use Rattle.of_symbolic_run.specs.FrameSets.{InFrames};
-ghost use Rattle.of_symbolic_run.specs.PortNumbers.{IsReceivingPort};
-ghost use Rattle.of_symbolic_run.specs.Received.{AreReceived};
-ghost use Rattle.of_paths.specs.declared.path.Merging.TheVariants.{SameWay};
-ghost use Rattle.of_paths.specs.declared.path.WhyUndecided.TheVariants.{Search};
-ghost use Rattle.of_paths.specs.SoFar.{PutsAlone, PutsPath};
+ghost use Rattle.of_datapath.specs.{Datapath.world_of, Numbers.forwarding_of};
+ghost use Rattle.of_symbolic_run.specs.{FrameSets.InFrames, PortNumbers.IsReceivingPort, Received.AreReceived};
+ghost use Rattle.of_paths.specs.{declared.path.Merging.TheVariants.SameWay, declared.path.WhyUndecided.TheVariants.Search, SoFar.PutsAlone, SoFar.PutsPath};
 
 use crate::path::{Merging, Path, PathClass, Paths, UndecidedFrames, WhyUndecided};
 use crate::ways::place_of_way;

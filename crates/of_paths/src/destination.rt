@@ -1,6 +1,5 @@
 //! Where frames go.
-ghost use Rattle.std.specs.Prelude.{◌≡◌};
-ghost use Rattle.std.specs.List.{list_any};
+ghost use Rattle.std.specs.{Prelude.◌≡◌, List.list_any};
 ghost use Rattle.of_paths.specs.Places.{lead_to, leaves_to};
 
 use of_machine::Item;

@@ -1,22 +1,13 @@
 //! The paths of all frames that a switch receives.
 ghost use Rattle.std.specs.Prelude.{◌≡◌, ◌≤◌, ◌+◌, ◌++◌, ◌∷◌, [], ℕ, List, IfOk, OnOk, true};
-ghost use Rattle.of_datapath.specs.Datapath.{world_of};
-ghost use Rattle.of_datapath.specs.Numbers.{forwarding_of};
-ghost use Rattle.of_oxm.specs.declared.match_field.MatchField.{MatchField as AMatchField};
-ghost use Rattle.of_oxm.specs.Relations.{matches_map};
+ghost use Rattle.of_datapath.specs.{Datapath.world_of, Numbers.forwarding_of};
+ghost use Rattle.of_oxm.specs.{declared.match_field.MatchField.MatchField as AMatchField, Relations.matches_map};
 ghost use Rattle.of_regions.specs.Conditions.{AreConditions};
 ghost use Rattle.of_machine.specs.TheWorld.{TheWorld};
 ghost use Rattle.of_symbolic.specs.Parts.{received_fields};
-ghost use Rattle.of_symbolic_run.specs.FrameSets.{InFrames};
-ghost use Rattle.of_symbolic_run.specs.NextStates.{IsFirstState};
-ghost use Rattle.of_symbolic_run.specs.declared.dividing.Case.{Case as ACase};
-ghost use Rattle.of_symbolic_run.specs.Received.{AreReceived, IsReceivedAt};
-ghost use Rattle.of_paths.specs.declared.path.Merging.{Merging as AMerging};
-ghost use Rattle.of_paths.specs.declared.path.Path.{Path as APath};
-ghost use Rattle.of_paths.specs.declared.stepping.Next.TheVariants.{Ended};
-ghost use Rattle.of_paths.specs.Paths.{ArePaths};
-ghost use Rattle.of_paths.specs.Reasons.{AreLeftAfter, AreMatched, IsStateOfRuns};
-ghost use Rattle.of_paths.specs.SoFar.{ArePathsSoFar, IsNextOf};
+ghost use Rattle.of_symbolic_run.specs.{FrameSets.InFrames, NextStates.IsFirstState, declared.dividing.Case.Case as ACase, Received.AreReceived, Received.IsReceivedAt};
+ghost use Rattle.of_paths.specs.{declared.path.Merging.Merging as AMerging, declared.path.Path.Path as APath, declared.stepping.Next.TheVariants.Ended, Paths.ArePaths};
+ghost use Rattle.of_paths.specs.{Reasons.AreLeftAfter, Reasons.AreMatched, Reasons.IsStateOfRuns, SoFar.ArePathsSoFar, SoFar.IsNextOf};
 
 use crate::classing::put_path;
 use crate::path::{Merging, Paths, UndecidedFrames, WhyUndecided};

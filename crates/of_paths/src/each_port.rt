@@ -1,11 +1,9 @@
 //! The paths of the frames of each port.
 ghost use Rattle.std.specs.Prelude.{◌≡◌, ◌++◌, ◌∷◌, [], ℕ, List, IfOk, OnOk};
-ghost use Rattle.of_datapath.specs.Datapath.{world_of};
-ghost use Rattle.of_datapath.specs.Numbers.{forwarding_of};
+ghost use Rattle.of_datapath.specs.{Datapath.world_of, Numbers.forwarding_of};
 ghost use Rattle.of_regions.specs.Conditions.{AreConditions};
 ghost use Rattle.of_symbolic_run.specs.PortNumbers.{came_in_by};
-ghost use Rattle.of_paths.specs.EachPort.{ArePathsOfPorts, receiving_numbers};
-ghost use Rattle.of_paths.specs.Paths.{ArePaths};
+ghost use Rattle.of_paths.specs.{EachPort.ArePathsOfPorts, EachPort.receiving_numbers, Paths.ArePaths};
 
 use crate::conditions::ingress_conditions;
 use crate::dividing::paths;

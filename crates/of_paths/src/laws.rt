@@ -2,8 +2,7 @@
 ghost use Rattle.std.specs.Prelude.{◌≡◌, ℕ, List, map};
 ghost use Rattle.of_machine.specs.TheWorld.{TheWorld};
 ghost use Rattle.of_symbolic_run.specs.Received.{items_at};
-ghost use Rattle.of_paths.specs.Places.{place_of_item};
-ghost use Rattle.of_paths.specs.Ways.{lines_at, way_of};
+ghost use Rattle.of_paths.specs.{Places.place_of_item, Ways.lines_at, Ways.way_of};
 
 /// Frames that come in by one port, and whose steps differ only in which entries are hit, go to the same places, in the same order (OpenFlow 1.3.5, 5.12).
 pub fn frames_of_one_way_go_alike()

@@ -1,7 +1,6 @@
 //! The steps of all frames of a set.
 ghost use Rattle.std.specs.Prelude.{◌≡◌, ◌∷◌, [], IfOk};
-ghost use Rattle.of_datapath.specs.Datapath.{world_of};
-ghost use Rattle.of_datapath.specs.Numbers.{forwarding_of};
+ghost use Rattle.of_datapath.specs.{Datapath.world_of, Numbers.forwarding_of};
 ghost use Rattle.of_paths.specs.SoFar.{IsNextOf};
 
 use crate::path::{Path, UndecidedFrames, WhyUndecided};

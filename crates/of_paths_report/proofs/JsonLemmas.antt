@@ -1,9 +1,7 @@
 -- Classes of paths in an array.
 use Rattle.std.proofs.Common.{◌≡◌, ℕ, ◌≤◌, Bool, true, false, List, [], ◌++◌, length, drop, refl, sym, ap, ◌∙◌, drop_of_length-le}
-use Rattle.std.proofs.lemmas.List.{append-nil}
-use Rattle.std.specs.Prelude.{Option}
-use Rattle.of_paths.specs.declared.path.PathClass.{PathClass}
-use Rattle.of_paths.specs.declared.destination.Destination.{Destination}
+use Rattle.std.{specs.Prelude.Option, proofs.lemmas.List.append-nil}
+use Rattle.of_paths.specs.{declared.path.PathClass.PathClass, declared.destination.Destination.Destination}
 use Rattle.of_paths_report.specs.PathsJson.{listed_behind, shown_classes}
 
 none_behind : (begun : Bool) (text : PathClass → List ℕ) → listed_behind begun text [] ≡ []

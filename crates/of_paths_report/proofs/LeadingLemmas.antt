@@ -1,29 +1,17 @@
 -- The frames of the classes that are told, and no others, go to the place that is asked for.
 use Rattle.std.proofs.Common.{◌≡◌, ◌<◌, ◌^◌, ℕ, zero, suc, eqb, Bool, true, false, cond, List, [], ◌∷◌, ◌++◌, map, Option, Some, None, refl, sym, ap, subst, ◌∙◌, inl, inr, ◌⊎◌, arith}
-use Rattle.std.specs.List.{Contains}
-use Rattle.std.proofs.lemmas.Bool.{eqb-true}
+use Rattle.std.{specs.List.Contains, proofs.lemmas.Bool.eqb-true}
 use Rattle.std.proofs.lemmas.List.Elements.{Contains-append_cases, Contains-append_left, Contains-append_right}
-use Rattle.of_oxm.specs.declared.match_field.MatchField.{MatchField}
-use Rattle.of_oxm.specs.Relations.{matches_map}
-use Rattle.of_ports.specs.declared.port.Port.{Port}
-use Rattle.of_ports.specs.Ports.{may_receive, port_at}
+use Rattle.of_oxm.specs.{declared.match_field.MatchField.MatchField, Relations.matches_map}
+use Rattle.of_ports.specs.{declared.port.Port.Port, Ports.may_receive, Ports.port_at}
 use Rattle.of_machine.specs.TheWorld.{TheWorld}
 use Rattle.of_symbolic.specs.Parts.{received_fields}
-use Rattle.of_symbolic_run.specs.PortNumbers.{came_in_by}
-use Rattle.of_symbolic_run.specs.Received.{IsReceivedAt, items_at}
-use Rattle.of_paths.specs.declared.destination.Destination.{Destination}
-use Rattle.of_paths.specs.declared.path.Merging.{Merging}
-use Rattle.of_paths.specs.declared.path.PathClass.{PathClass}
-use Rattle.of_paths.specs.declared.path.Paths.{Paths}
-use Rattle.of_paths.specs.declared.path.UndecidedFrames.{UndecidedFrames}
-use Rattle.of_paths.specs.EachPort.{ArePathsOfPorts, receiving_numbers}
-use Rattle.of_paths.specs.Ingress.{ingress_match}
-use Rattle.of_paths.specs.Paths.{ArePaths, InPaths, InUndecidedFrames, IsPathClass}
-use Rattle.of_paths.specs.Places.{lead_to}
-use Rattle.of_paths.proofs.PlaceLemmas.{lead_alike}
+use Rattle.of_symbolic_run.specs.{PortNumbers.came_in_by, Received.IsReceivedAt, Received.items_at}
+use Rattle.of_paths.specs.{declared.destination.Destination.Destination, declared.path.Merging.Merging, declared.path.PathClass.PathClass, declared.path.Paths.Paths}
+use Rattle.of_paths.specs.{declared.path.UndecidedFrames.UndecidedFrames, EachPort.ArePathsOfPorts, EachPort.receiving_numbers, Ingress.ingress_match}
+use Rattle.of_paths.{specs.Paths.ArePaths, specs.Paths.InPaths, specs.Paths.InUndecidedFrames, specs.Paths.IsPathClass, specs.Places.lead_to, proofs.PlaceLemmas.lead_alike}
 use Rattle.of_paths.proofs.PortLemmas.{goes_alike, matched_there}
-use Rattle.of_paths_report.specs.Asked.{ArePathsFor}
-use Rattle.of_paths_report.specs.Destinations.{InClassLeadingTo, is_class_leading}
+use Rattle.of_paths_report.specs.{Asked.ArePathsFor, Destinations.InClassLeadingTo, Destinations.is_class_leading}
 
 -- ---- the number of a port that receives
 

@@ -4,10 +4,7 @@ use Rattle.std.specs.Prelude.{ℕ, List, ◌∷◌, Option, None, Some}
 use Rattle.of_oxm.specs.declared.match_field.MatchField.{MatchField}
 use Rattle.of_machine.specs.TheWorld.{TheWorld}
 use Rattle.of_symbolic_run.specs.PortNumbers.{came_in_by}
-use Rattle.of_paths.specs.declared.destination.Destination.{Destination}
-use Rattle.of_paths.specs.declared.path.Merging.{Merging}
-use Rattle.of_paths.specs.declared.path.Paths.{Paths}
-use Rattle.of_paths.specs.EachPort.{ArePathsOfPorts, receiving_numbers}
+use Rattle.of_paths.specs.{declared.destination.Destination.Destination, declared.path.Merging.Merging, declared.path.Paths.Paths, EachPort.ArePathsOfPorts, EachPort.receiving_numbers}
 use Rattle.of_paths.specs.Paths.{ArePaths}
 use Rattle.of_paths_report.specs.declared.asked.Asked.{Asked}
 

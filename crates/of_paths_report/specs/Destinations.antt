@@ -1,10 +1,7 @@
 -- WHERE THE FRAMES OF A CLASS GO: where its frame goes, if they come in by one port (OpenFlow 1.3.5, 5.12).
 use Rattle.std.specs.Prelude.{◌≡◌, ℕ, Bool, true, List, Option, Some, None}
 use Rattle.std.specs.List.{Contains}
-use Rattle.of_paths.specs.declared.path.PathClass.{PathClass}
-use Rattle.of_paths.specs.Paths.{InPaths}
-use Rattle.of_paths.specs.Places.{lead_to}
-use Rattle.of_paths.specs.declared.destination.Destination.{Destination}
+use Rattle.of_paths.specs.{declared.path.PathClass.PathClass, Paths.InPaths, Places.lead_to, declared.destination.Destination.Destination}
 
 -- something of its frame leaves by the port, or goes to the controller; or nothing of it leaves
 abbrev pub is_class_leading : Destination → PathClass → Bool

@@ -1,18 +1,11 @@
 -- WHAT `paths` WRITES ABOUT A SWITCH, and whether it is known of all frames.
 use Rattle.std.specs.Prelude.{◌≡◌, ◌≢◌, ℕ, ◌==◌, List, length, Option, Result, Ok, Err, if◌then◌else◌}
 use Rattle.of_datapath.specs.Datapath.{Forwarding, world_of}
-use Rattle.of_replay.specs.declared.event_file.Ended.{Ended}
-use Rattle.of_replay.specs.declared.event_file.Ended.TheVariants.{Done}
-use Rattle.of_paths.specs.declared.path.Paths.{Paths}
-use Rattle.of_paths.specs.declared.destination.Destination.{Destination}
-use Rattle.of_paths_report.specs.declared.asked.Asked.{Asked}
-use Rattle.of_paths_report.specs.declared.writing.PathsForm.{PathsForm}
-use Rattle.of_paths_report.specs.declared.writing.PathsForm.TheVariants.{Json, Words}
-use Rattle.of_paths_report.specs.declared.writing.PathsVerdict.{PathsVerdict}
-use Rattle.of_paths_report.specs.declared.writing.PathsVerdict.TheVariants.{Complete, Undecided}
-use Rattle.of_paths_report.specs.Asked.{AreAskedPaths}
-use Rattle.of_paths_report.specs.PathsWords.{paths_words}
-use Rattle.of_paths_report.specs.PathsJson.{paths_json}
+use Rattle.of_replay.specs.{declared.event_file.Ended.Ended, declared.event_file.Ended.TheVariants.Done}
+use Rattle.of_paths.specs.{declared.path.Paths.Paths, declared.destination.Destination.Destination}
+use Rattle.of_paths_report.specs.{declared.asked.Asked.Asked, declared.writing.PathsForm.PathsForm, declared.writing.PathsForm.TheVariants.Json, declared.writing.PathsForm.TheVariants.Words}
+use Rattle.of_paths_report.specs.{declared.writing.PathsVerdict.PathsVerdict, declared.writing.PathsVerdict.TheVariants.Complete, declared.writing.PathsVerdict.TheVariants.Undecided}
+use Rattle.of_paths_report.specs.{Asked.AreAskedPaths, PathsWords.paths_words, PathsJson.paths_json}
 
 -- in words or as JSON
 abbrev pub paths_text : PathsForm → Forwarding → Option Destination → Paths → List ℕ

@@ -3,26 +3,16 @@ use Rattle.std.specs.Prelude.{ℕ, Bool, true, false, List, [], ◌∷◌, ◌++
 use Rattle.std.specs.List.{flat_map}
 use Rattle.hex.specs.Hex.{encode_lower}
 use Rattle.of_machine.specs.declared.data.Step.{Step}
-use Rattle.of_datapath.specs.Datapath.{Forwarding}
-use Rattle.of_datapath.specs.DryRun.{steps_in}
+use Rattle.of_datapath.specs.{Datapath.Forwarding, DryRun.steps_in}
 use Rattle.of_trace.specs.Text.{step_line}
 use Rattle.of_values.specs.Filled.{filled}
-use Rattle.of_json.specs.declared.hits.Hit.{Hit}
-use Rattle.of_json.specs.Hits.{hits_at}
 use Rattle.of_json.specs.Parts.{document_head, key, listed, number_member, quoted, text_member}
-use Rattle.of_json.specs.Strings.{array_member}
-use Rattle.of_json.specs.LeavingJson.{items_member}
-use Rattle.of_json.specs.ChangesInJson.{changes_member}
-use Rattle.of_paths.specs.declared.path.Path.{Path}
-use Rattle.of_paths.specs.declared.path.PathClass.{PathClass}
-use Rattle.of_paths.specs.declared.path.Paths.{Paths}
-use Rattle.of_paths.specs.declared.path.UndecidedFrames.{UndecidedFrames}
+use Rattle.of_json.specs.{declared.hits.Hit.Hit, Hits.hits_at, Strings.array_member, LeavingJson.items_member, ChangesInJson.changes_member}
+use Rattle.of_paths.specs.{declared.path.Path.Path, declared.path.PathClass.PathClass, declared.path.Paths.Paths, declared.path.UndecidedFrames.UndecidedFrames}
 use Rattle.of_paths.specs.declared.path.WhyUndecided.{WhyUndecided}
 use Rattle.of_paths.specs.declared.path.WhyUndecided.TheVariants.{Search, Steps, UnknownTag}
 use Rattle.of_paths.specs.declared.destination.Destination.{Destination}
-use Rattle.of_paths_report.specs.declared.json.TheConstants.{CLASS}
-use Rattle.of_paths_report.specs.declared.json_hits.TheConstants.{HIT}
-use Rattle.of_paths_report.specs.Destinations.{is_class_shown}
+use Rattle.of_paths_report.specs.{declared.json.TheConstants.CLASS, declared.json_hits.TheConstants.HIT, Destinations.is_class_shown}
 
 -- ---- the entries that a path hits, in turn: an object for each, with its table and its number by age
 

@@ -3,20 +3,11 @@ use Rattle.std.specs.Prelude.{ℕ, ◌==◌, nat_lt, Bool, true, false, List, []
 use Rattle.std.specs.List.{flat_map}
 use Rattle.of_text.specs.Lines.{ended}
 use Rattle.of_values.specs.Filled.{filled}
-use Rattle.of_json.specs.Parts.{listed}
-use Rattle.of_machine.specs.declared.data.Step.{Step}
-use Rattle.of_machine.specs.declared.data.Step.TheVariants.{Entry}
-use Rattle.of_datapath.specs.Datapath.{Forwarding}
-use Rattle.of_datapath.specs.DryRun.{steps_in}
-use Rattle.of_trace.specs.Text.{step_line}
-use Rattle.of_trace.specs.Words.{heading}
-use Rattle.of_json.specs.LeavingWords.{frame_lines}
-use Rattle.of_json.specs.UndecidedWords.{undecided_count, undecided_sets}
-use Rattle.of_json.specs.ChangesInWords.{changed_side_words}
-use Rattle.of_paths.specs.declared.path.Path.{Path}
-use Rattle.of_paths.specs.declared.path.PathClass.{PathClass}
-use Rattle.of_paths.specs.declared.path.Paths.{Paths}
-use Rattle.of_paths.specs.declared.path.UndecidedFrames.{UndecidedFrames}
+use Rattle.of_json.specs.{Parts.listed, LeavingWords.frame_lines, UndecidedWords.undecided_count, UndecidedWords.undecided_sets, ChangesInWords.changed_side_words}
+use Rattle.of_machine.specs.{declared.data.Step.Step, declared.data.Step.TheVariants.Entry}
+use Rattle.of_datapath.specs.{Datapath.Forwarding, DryRun.steps_in}
+use Rattle.of_trace.specs.{Text.step_line, Words.heading}
+use Rattle.of_paths.specs.{declared.path.Path.Path, declared.path.PathClass.PathClass, declared.path.Paths.Paths, declared.path.UndecidedFrames.UndecidedFrames}
 use Rattle.of_paths.specs.declared.path.WhyUndecided.{WhyUndecided}
 use Rattle.of_paths.specs.declared.path.WhyUndecided.TheVariants.{Search, Steps, UnknownTag}
 use Rattle.of_paths.specs.declared.destination.Destination.{Destination}

@@ -1,20 +1,13 @@
 //! Which paths are told if a place is asked for.
 ghost use Rattle.std.specs.Prelude.{◌≡◌, ◌<◌, ◌^◌, ◌++◌, ◌⊎◌, ℕ, List, Option, Some, true};
 ghost use Rattle.std.specs.List.{Contains};
-ghost use Rattle.of_oxm.specs.declared.match_field.MatchField.{MatchField};
-ghost use Rattle.of_oxm.specs.Relations.{matches_map};
+ghost use Rattle.of_oxm.specs.{declared.match_field.MatchField.MatchField, Relations.matches_map};
 ghost use Rattle.of_machine.specs.TheWorld.{TheWorld};
 ghost use Rattle.of_symbolic.specs.Parts.{received_fields};
 ghost use Rattle.of_symbolic_run.specs.Received.{IsReceivedAt, items_at};
-ghost use Rattle.of_paths.specs.Ingress.{ingress_match};
-ghost use Rattle.of_paths.specs.Paths.{InPaths, InUndecidedFrames};
-ghost use Rattle.of_paths.specs.Places.{lead_to};
-ghost use Rattle.of_paths.specs.declared.destination.Destination.{Destination as Place};
-ghost use Rattle.of_paths.specs.declared.path.Merging.{Merging};
-ghost use Rattle.of_paths.specs.declared.path.PathClass.{PathClass};
-ghost use Rattle.of_paths.specs.declared.path.Paths.{Paths};
-ghost use Rattle.of_paths_report.specs.Asked.{ArePathsFor};
-ghost use Rattle.of_paths_report.specs.Destinations.{InClassLeadingTo, is_class_leading};
+ghost use Rattle.of_paths.specs.{Ingress.ingress_match, Paths.InPaths, Paths.InUndecidedFrames, Places.lead_to, declared.destination.Destination.Destination as Place, declared.path.Merging.Merging};
+ghost use Rattle.of_paths.specs.{declared.path.PathClass.PathClass, declared.path.Paths.Paths};
+ghost use Rattle.of_paths_report.specs.{Asked.ArePathsFor, Destinations.InClassLeadingTo, Destinations.is_class_leading};
 
 /// If a place is asked for, each frame that goes there, of which nothing leaves if that is asked for, is in a class that is told, or is undecided; and
 /// each frame of a class that is told goes there (OpenFlow 1.3.5, 5.1 and 5.12).

@@ -2,8 +2,7 @@
 ghost use Rattle.std.specs.Prelude.{◌≡◌, ◌<◌, ◌↔◌, IfOk};
 ghost use Rattle.of_regions.specs.Conditions.{AreConditions};
 ghost use Rattle.of_replay.specs.FileRuns.{Writes, ended_as};
-ghost use Rattle.of_paths_report.specs.PathsFiles.{IsPathsReport, paths_text, paths_verdict};
-ghost use Rattle.of_paths_report.specs.PathsWords.{paths_words};
+ghost use Rattle.of_paths_report.specs.{PathsFiles.IsPathsReport, PathsFiles.paths_text, PathsFiles.paths_verdict, PathsWords.paths_words};
 
 use crate::asked::{Asked, asked_paths};
 use crate::classes::push_classes;

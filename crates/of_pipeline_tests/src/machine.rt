@@ -1,8 +1,6 @@
 ghost use Rattle.std.specs.Prelude.{◌≡◌, ◌==◌, ◌∷◌, [], Some, None, IsTrue, IfOk, if◌then◌else◌};
-ghost use Rattle.of_actions.specs.declared.action.Action.TheVariants.{Output};
-ghost use Rattle.of_actions.specs.InstructionLists.{are_for};
+ghost use Rattle.of_actions.specs.{declared.action.Action.TheVariants.Output, InstructionLists.are_for, Rising.is_ascending};
 ghost use Rattle.of_ports.specs.Ports.{number_of_port};
-ghost use Rattle.of_actions.specs.Rising.{is_ascending};
 
 mod rows;
 

@@ -1,8 +1,7 @@
 -- What ports count (OpenFlow 1.3.5, 5.8).
 use Rattle.std.specs.Prelude.{ℕ, ◌+◌, ◌%◌, ◌^◌}
-use Rattle.of_ports.specs.declared.counters.PortCounters.{PortCounters}
-use Rattle.of_ports.specs.declared.counters.PortCount.{PortCount}
 use Rattle.of_ports.specs.declared.counters.PortCount.TheVariants.{Received, ReceiveDropped, ReceiveError, Sent, SendDropped}
+use Rattle.of_ports.specs.{declared.counters.PortCounters.PortCounters, declared.counters.PortCount.PortCount}
 
 abbrev pub no_counters : PortCounters
 no_counters = record { rx_packets = 0; tx_packets = 0; rx_bytes = 0; tx_bytes = 0; rx_dropped = 0; tx_dropped = 0; rx_errors = 0 }

@@ -2,11 +2,7 @@
 use Rattle.std.specs.Prelude.{ℕ, ◌+◌, ◌==◌, nat_lt, Bool, false, not, ◌&&◌, List, ◌∷◌, ◌++◌, Option, map, find, filter, if◌then◌else◌}
 use Rattle.std.specs.Option.{option_map_or}
 use Rattle.of_wire.specs.Numbered.{is_used, without as without_number}
-use Rattle.of_ports.specs.declared.config.PortConfig.{PortConfig}
-use Rattle.of_ports.specs.declared.counters.PortCount.{PortCount}
-use Rattle.of_ports.specs.declared.port.Port.{Port}
-use Rattle.of_ports.specs.Config.{no_config}
-use Rattle.of_ports.specs.Counters.{no_counters, tally}
+use Rattle.of_ports.specs.{declared.config.PortConfig.PortConfig, declared.counters.PortCount.PortCount, declared.port.Port.Port, Config.no_config, Counters.no_counters, Counters.tally}
 
 -- ---- a port
 

@@ -1,7 +1,6 @@
 //! Ports (OpenFlow 1.3.5, 7.2.1).
-ghost use Rattle.std.specs.Prelude.{◌≡◌};
+ghost use Rattle.std.specs.{Prelude.◌≡◌, Option.option_copied};
 ghost use Rattle.of_ports.specs.Ports.{is_live as lives, may_receive, may_send, new_port, state_bits, port_at};
-ghost use Rattle.std.specs.Option.{option_copied};
 
 use crate::config::PortConfig;
 use crate::counters::PortCounters;

@@ -21,8 +21,7 @@ pub struct Ports {
 
 impl Model for Ports {
     ghost use Rattle.std.specs.Prelude.{List};
-    ghost use Rattle.of_ports.specs.declared.port.Port.{Port};
-    ghost use Rattle.of_ports.specs.Sound.{AreSoundPorts};
+    ghost use Rattle.of_ports.specs.{declared.port.Port.Port, Sound.AreSoundPorts};
 
     ghost Value = { List Port };
 

@@ -1,26 +1,14 @@
 -- What is known of each field, one after the other.
 use Rattle.std.proofs.Common.{◌≡◌, ℕ, suc, ◌+◌, ◌<◌, ◌≤◌, Bool, true, false, cond, eqb, List, get_or, Option, Some, None, refl, sym, ap, ◌∙◌, subst, arith}
-use Rattle.std.specs.Prelude.{bit_and, IfSome, slice_index_or}
-use Rattle.std.proofs.lemmas.Bool.{eqb-true, eq-eqb}
-use Rattle.std.proofs.lemmas.Bool.Decides.{nat_tests}
+use Rattle.std.{specs.Prelude.bit_and, specs.Prelude.IfSome, specs.Prelude.slice_index_or, proofs.lemmas.Bool.eqb-true, proofs.lemmas.Bool.eq-eqb, proofs.lemmas.Bool.Decides.nat_tests}
 use Rattle.std.proofs.lemmas.Nat.{and_le_r}
-use Rattle.of_layers.specs.declared.field.Field.{Field}
-use Rattle.of_layers.specs.Fields.{number_of, ones_of}
-use Rattle.of_layers.proofs.Table.{same_number}
+use Rattle.of_layers.{specs.declared.field.Field.Field, specs.Fields.number_of, specs.Fields.ones_of, proofs.Table.same_number}
 use Rattle.of_headers.specs.FieldMap.{value}
-use Rattle.of_oxm.specs.Masks.{mask_at}
-use Rattle.of_frames.specs.declared.shape.Rule.{Rule}
-use Rattle.of_frames.specs.declared.shape.Rule.TheVariants.{Free, Absent, Under}
-use Rattle.of_regions.specs.declared.building.Fields.{Fields}
-use Rattle.of_regions.specs.declared.joining.Bits.{Bits}
-use Rattle.of_oxm.specs.declared.match_field.MatchField.{MatchField}
-use Rattle.of_oxm.specs.Masks.{looked_at, value_of}
-use Rattle.of_frames.specs.declared.shape.Shape.{Shape}
+use Rattle.of_oxm.specs.{Masks.mask_at, Masks.looked_at, Masks.value_of, declared.match_field.MatchField.MatchField}
+use Rattle.of_frames.specs.{declared.shape.Rule.Rule, declared.shape.Rule.TheVariants.Free, declared.shape.Rule.TheVariants.Absent, declared.shape.Rule.TheVariants.Under, declared.shape.Shape.Shape}
 use Rattle.of_frames.specs.declared.shape.Tagging.{Tagging}
-use Rattle.of_regions.specs.Known.{is_known_by, rule_in}
-use Rattle.of_regions.specs.Joining.{Joined}
-use Rattle.of_regions.proofs.PlaceLemmas.{place, same_place}
-use Rattle.of_regions.specs.Building.{AreOthers, IsBegunField, IsUnknown, bits_at}
+use Rattle.of_regions.specs.{declared.building.Fields.Fields, declared.joining.Bits.Bits, Known.is_known_by, Known.rule_in, Joining.Joined}
+use Rattle.of_regions.{specs.Building.AreOthers, specs.Building.IsBegunField, specs.Building.IsUnknown, specs.Building.bits_at, proofs.PlaceLemmas.place, proofs.PlaceLemmas.same_place}
 use Rattle.of_regions.proofs.JoiningLemmas.{parts}
 
 pub put_none : (old : Field → Option ℕ) (field f : Field) (number : Option ℕ) → old field ≡ None → number ≡ None → old f ≡ cond (eqb (number_of f) (number_of field)) number (old f)

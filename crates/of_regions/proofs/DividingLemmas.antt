@@ -1,20 +1,13 @@
 -- Bits of numbers.
 use Rattle.std.proofs.Common.{◌≡◌, ℕ, zero, suc, ◌*◌, ◌/◌, ◌%◌, ◌^◌, ◌<◌, ◌≤◌, Bool, true, false, eqb, Option, Some, None, refl, sym, ap, ◌∙◌, arith, inl, inr}
-use Rattle.std.specs.Prelude.{bit_and, bit_or, bit_xor, ◌⊎◌}
-use Rattle.std.specs.Int.{bit_at}
-use Rattle.std.specs.Int.Bits.{and_comm}
+use Rattle.std.specs.Prelude.{bit_and, bit_or, bit_xor, ◌⊎◌, not}
 use Rattle.std.proofs.lemmas.Nat.Bits.{and_pow, bit_at_and, bit_at_or, bit_at_xor, bit_at-lt, bit_at-zero, same_from_bits}
-use Rattle.std.proofs.lemmas.Nat.{div_below, le-div, one_shl, pow_pos}
-use Rattle.std.specs.Prelude.{not}
-use Rattle.std.proofs.lemmas.Bool.{eqb-true, eq-eqb}
-use Rattle.std.proofs.lemmas.Nat.{and_assoc, and_le_l}
+use Rattle.std.proofs.lemmas.Nat.{div_below, le-div, one_shl, pow_pos, and_assoc, and_le_l}
+use Rattle.std.{specs.Int.bit_at, specs.Int.Bits.and_comm, proofs.lemmas.Bool.eqb-true, proofs.lemmas.Bool.eq-eqb}
 use Rattle.of_layers.specs.Fields.{ones_of}
-use Rattle.of_oxm.specs.declared.match_field.MatchField.{MatchField}
-use Rattle.of_oxm.specs.Relations.{bits_looked_at}
-use Rattle.of_regions.specs.Meeting.{is_apart, is_settled}
-use Rattle.of_regions.specs.Conditions.{IsCondition}
+use Rattle.of_oxm.specs.{declared.match_field.MatchField.MatchField, Relations.bits_looked_at}
+use Rattle.of_regions.specs.{Meeting.is_apart, Meeting.is_settled, Conditions.IsCondition, Dividing.AreWithout, Dividing.IsBitOf}
 use Rattle.of_headers.specs.FieldMap.{seen}
-use Rattle.of_regions.specs.Dividing.{AreWithout, IsBitOf}
 
 pub are_without : (bits mask : ℕ) → AreWithout bits mask (bit_xor bits (bit_and bits mask))
 are_without bits mask = record {

@@ -1,17 +1,11 @@
 -- Regions of which more is known.
 use Rattle.std.proofs.Common.{◌≡◌, ℕ, Bool, true, false, cond, eqb, Option, Some, None, refl, sym, ap, ◌∙◌, subst, inl, inr}
-use Rattle.std.specs.Prelude.{bit_and, bit_or, ◌⊎◌, ◌^◌}
-use Rattle.std.proofs.lemmas.Bool.{eqb-true, eq-eqb}
-use Rattle.of_layers.specs.declared.field.Field.{Field}
-use Rattle.of_layers.specs.Fields.{number_of, ones_of}
-use Rattle.of_layers.proofs.Table.{same_number}
+use Rattle.std.{specs.Prelude.bit_and, specs.Prelude.bit_or, specs.Prelude.◌⊎◌, specs.Prelude.◌^◌, proofs.lemmas.Bool.eqb-true, proofs.lemmas.Bool.eq-eqb}
+use Rattle.of_layers.{specs.declared.field.Field.Field, specs.Fields.number_of, specs.Fields.ones_of, proofs.Table.same_number}
 use Rattle.of_headers.specs.FieldMap.{seen}
-use Rattle.of_frames.specs.Knowing.{IsAmong}
-use Rattle.of_frames.specs.declared.shape.Rule.{Rule}
-use Rattle.of_frames.specs.declared.shape.Rule.TheVariants.{Free, Absent, Under}
-use Rattle.of_regions.specs.Known.{is_known_by}
-use Rattle.of_regions.proofs.JoiningLemmas.{parts, whole}
+use Rattle.of_frames.specs.{Knowing.IsAmong, declared.shape.Rule.Rule, declared.shape.Rule.TheVariants.Free, declared.shape.Rule.TheVariants.Absent, declared.shape.Rule.TheVariants.Under}
 use Rattle.of_regions.proofs.DividingLemmas.{high_has, high_less, high_or_low, high_said, high_under, low_lacks, low_less, low_under, more_ruled, more_within, not_both}
+use Rattle.of_regions.{specs.Known.is_known_by, proofs.JoiningLemmas.parts, proofs.JoiningLemmas.whole}
 
 -- ---- a bit more of a field
 

@@ -1,16 +1,9 @@
 -- What rivals do with a region, one after the other.
 use Rattle.std.proofs.Common.{◌≡◌, ◌<◌, ◌+◌, ℕ, List, Option, Some, None, arith, below_more, sym, ap, ◌∙◌, subst, refl}
-use Rattle.std.specs.Prelude.{slice_get}
-use Rattle.std.specs.List.{Contains}
-use Rattle.std.specs.Option.{option_or}
-use Rattle.std.proofs.lemmas.List.Elements.{All-contains, All-from_recursion}
+use Rattle.std.{specs.Prelude.slice_get, specs.List.Contains, specs.Option.option_or, proofs.lemmas.List.Elements.All-contains, proofs.lemmas.List.Elements.All-from_recursion}
 use Rattle.of_oxm.specs.declared.match_field.MatchField.{MatchField}
-use Rattle.of_regions.specs.Conditions.{AreConditions, IsCondition}
-use Rattle.of_regions.specs.declared.meeting.Meeting.TheVariants.{Apart, Crosses}
-use Rattle.of_regions.specs.declared.region.Region.{Region}
-use Rattle.of_regions.specs.declared.rival.Rival.{Rival}
-use Rattle.of_regions.specs.Meeting.{Meets}
-use Rattle.of_regions.specs.Searching.{AreApartBefore, IsSplit}
+use Rattle.of_regions.specs.{Conditions.AreConditions, Conditions.IsCondition, declared.meeting.Meeting.TheVariants.Apart, declared.meeting.Meeting.TheVariants.Crosses}
+use Rattle.of_regions.specs.{declared.region.Region.Region, declared.rival.Rival.Rival, Meeting.Meets, Searching.AreApartBefore, Searching.IsSplit}
 
 -- none of the rivals before n matches any of the region, or the first that may match some was found
 abbrev pub IsSplitSoFar : List Rival → Region → ℕ → Option (ℕ × MatchField) → Type 0

@@ -1,19 +1,12 @@
 -- What a match does with a region.
 use Rattle.std.proofs.Common.{◌≡◌, ℕ, suc, Bool, true, false, cond, eqb, List, [], ◌∷◌, length, get_or, Option, Some, None, refl, sym, ap, ◌∙◌, arith}
 use Rattle.std.specs.Prelude.{bit_and, not, find, ◌&&◌, ◌||◌}
-use Rattle.std.specs.List.{Contains, list_any}
-use Rattle.std.specs.Int.Bits.{and_comm}
-use Rattle.std.proofs.lemmas.Bool.{eqb-true, eq-eqb}
-use Rattle.std.proofs.lemmas.Nat.{and_assoc}
+use Rattle.std.{specs.List.Contains, specs.List.list_any, specs.Int.Bits.and_comm, proofs.lemmas.Bool.eqb-true, proofs.lemmas.Bool.eq-eqb, proofs.lemmas.Nat.and_assoc}
 use Rattle.of_layers.specs.declared.field.Field.{Field}
 use Rattle.of_headers.specs.FieldMap.{value, seen}
-use Rattle.of_oxm.specs.declared.match_field.MatchField.{MatchField}
-use Rattle.of_oxm.specs.Masks.{mask_at}
-use Rattle.of_oxm.specs.Relations.{bits_looked_at, agrees, matches_map}
+use Rattle.of_oxm.specs.{declared.match_field.MatchField.MatchField, Masks.mask_at, Relations.bits_looked_at, Relations.agrees, Relations.matches_map}
 use Rattle.of_oxm.proofs.Related.{and_true}
-use Rattle.of_regions.specs.declared.region.Region.{Region}
-use Rattle.of_regions.specs.Regions.{InRegion}
-use Rattle.of_regions.specs.Meeting.{IsCrossed, is_apart, is_settled}
+use Rattle.of_regions.specs.{declared.region.Region.Region, Regions.InRegion, Meeting.IsCrossed, Meeting.is_apart, Meeting.is_settled}
 
 abbrev settled : Region → MatchField → Bool
 settled r e = is_settled e (mask_at r.masks e.field) (value r.known e.field)

@@ -1,8 +1,8 @@
 -- Places that are named.
 use Rattle.std.proofs.Common.{◌≡◌, ℕ, ◌<◌, ◌≤◌, ◌⊎◌, zero, suc, Bool, true, false, cond, eqb, leb, ltb, Some, None, List, [], ◌∷◌, ◌++◌, length, get_or, refl, sym, ap, subst, ◌∙◌, arith, inl, inr}
-use Rattle.std.specs.Prelude.{nat_le, slice_index_or}
 use Rattle.std.specs.List.{AllByRecursion, Contains, insert, position, position_or_len}
 use Rattle.std.proofs.lemmas.Bool.{eqb-true, eq-eqb, leb-true, leb-false, ltb-true, ltb-false}
+use Rattle.std.specs.Prelude.{nat_le, slice_index_or}
 use Rattle.of_regions.specs.Naming.{AreAscending, IsNamed, with_place}
 
 behind : (x i : ℕ) (xs : List ℕ) → Contains xs i → Contains (x ∷ xs) i

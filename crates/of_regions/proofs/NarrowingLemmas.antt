@@ -1,36 +1,21 @@
 -- Regions with more conditions.
 use Rattle.std.proofs.Common.{◌≡◌, ◌⊎◌, ◌<◌, ℕ, zero, suc, Bool, true, false, cond, eqb, List, [], ◌∷◌, ◌++◌, length, get_or, take, Option, Some, None, refl, sym, ap, ◌∙◌, subst, arith, inl, inr}
 use Rattle.std.specs.Prelude.{bit_and, bit_or, unwrap_or, IfSome, ◌||◌, ◌&&◌}
-use Rattle.std.specs.List.{Contains, list_all, list_any}
-use Rattle.std.proofs.lemmas.Bool.{eq-eqb, eqb-true}
-use Rattle.std.proofs.lemmas.Nat.{and_assoc, and_le_l}
+use Rattle.std.{specs.List.Contains, specs.List.list_all, specs.List.list_any, proofs.lemmas.Bool.eq-eqb, proofs.lemmas.Bool.eqb-true, proofs.lemmas.Nat.and_assoc, proofs.lemmas.Nat.and_le_l}
 use Rattle.std.proofs.lemmas.List.Elements.{Contains-append_cases, Contains-append_left, Contains-append_right, Contains-push_cases}
 use Rattle.of_layers.specs.declared.field.Field.{Field}
 use Rattle.of_layers.specs.declared.field.Field.TheVariants.{EthType, IpProto, VlanPcp, VlanVid}
 use Rattle.of_layers.specs.Fields.{number_of, ones_of, prerequisite_of}
 use Rattle.of_headers.specs.FieldMap.{seen, value}
-use Rattle.of_oxm.specs.declared.match_field.MatchField.{MatchField}
-use Rattle.of_oxm.specs.Masks.{mask_at}
-use Rattle.of_oxm.specs.NormalForm.{IsKept}
-use Rattle.of_oxm.specs.Relations.{agrees, bits_looked_at, matches_map}
+use Rattle.of_oxm.specs.{declared.match_field.MatchField.MatchField, Masks.mask_at, NormalForm.IsKept, Relations.agrees, Relations.bits_looked_at, Relations.matches_map}
 use Rattle.of_oxm.proofs.Joined.{covered}
-use Rattle.of_frames.specs.declared.shape.Rule.{Rule}
-use Rattle.of_frames.specs.declared.shape.Rule.TheVariants.{Free, Absent, Under}
-use Rattle.of_regions.specs.declared.region.Region.{Region}
-use Rattle.of_frames.specs.declared.shape.Shape.{Shape}
-use Rattle.of_frames.specs.declared.shape.Tagging.{Tagging}
-use Rattle.of_frames.specs.declared.shape.Tagging.TheVariants.{Untagged, Tagged}
-use Rattle.of_frames.specs.Rules.{IsTagging, has_header}
-use Rattle.of_regions.specs.Conditions.{IsCondition}
-use Rattle.of_regions.specs.Narrowing.{AreNarrowed, IsNarrowedBy, is_of_tag}
-use Rattle.of_regions.specs.Known.{is_known_by, rule_in}
-use Rattle.of_regions.specs.Regions.{InRegion, InOneRegion}
-use Rattle.of_regions.specs.Searching.{InSome}
-use Rattle.of_regions.specs.Starting.{region_list}
+use Rattle.of_frames.specs.{declared.shape.Rule.Rule, declared.shape.Rule.TheVariants.Free, declared.shape.Rule.TheVariants.Absent, declared.shape.Rule.TheVariants.Under, declared.shape.Shape.Shape}
+use Rattle.of_frames.specs.{declared.shape.Tagging.Tagging, declared.shape.Tagging.TheVariants.Untagged, declared.shape.Tagging.TheVariants.Tagged, Rules.IsTagging, Rules.has_header}
 use Rattle.of_regions.proofs.JoiningLemmas.{Parts, joined_back, joined_forth, joined_known, not_joined, parts, whole}
+use Rattle.of_regions.specs.{declared.region.Region.Region, Conditions.IsCondition, Narrowing.AreNarrowed, Narrowing.IsNarrowedBy, Narrowing.is_of_tag, Known.is_known_by, Known.rule_in}
+use Rattle.of_regions.specs.{Regions.InRegion, Regions.InOneRegion, Searching.InSome, Starting.region_list}
 use Rattle.of_regions.proofs.LearningLemmas.{own_among, set_among, was_among}
-use Rattle.of_regions.proofs.RuleLemmas.{mask_within, protocol_said, said_or, type_said}
-use Rattle.of_regions.proofs.TaggingLemmas.{unknown_free, unknown_untagged}
+use Rattle.of_regions.proofs.{RuleLemmas.mask_within, RuleLemmas.protocol_said, RuleLemmas.said_or, RuleLemmas.type_said, TaggingLemmas.unknown_free, TaggingLemmas.unknown_untagged}
 
 -- ---- a condition and what it sees
 

@@ -1,12 +1,7 @@
 -- The places of the fields in the list of all.
 use Rattle.std.proofs.Common.{◌≡◌, ℕ, zero, suc, ◌<◌, Bool, true, false, eqb, ltb, List, [], ◌∷◌, length, get_or, refl, sym, ap, ◌∙◌, arith}
-use Rattle.std.specs.Prelude.{◌&&◌}
-use Rattle.std.specs.List.{position_or_len}
-use Rattle.std.proofs.lemmas.Bool.{eqb-true, ltb-true}
-use Rattle.std.proofs.lemmas.Bool.Decides.{nat_tests}
-use Rattle.of_layers.specs.declared.field.Field.{Field}
-use Rattle.of_layers.specs.declared.field.Field.TheVariants.{InPort}
-use Rattle.of_layers.specs.Fields.{all_fields, number_of, row_of}
+use Rattle.std.{specs.Prelude.◌&&◌, specs.List.position_or_len, proofs.lemmas.Bool.eqb-true, proofs.lemmas.Bool.ltb-true, proofs.lemmas.Bool.Decides.nat_tests}
+use Rattle.of_layers.specs.{declared.field.Field.Field, declared.field.Field.TheVariants.InPort, Fields.all_fields, Fields.number_of, Fields.row_of}
 use Rattle.of_oxm.proofs.Related.{and_true}
 
 pub place : Field → ℕ

@@ -1,31 +1,16 @@
 -- How a search goes on.
 use Rattle.std.proofs.Common.{◌≡◌, ℕ, zero, suc, ◌⊎◌, ◌<◌, ◌+◌, true, List, [], ◌∷◌, ◌++◌, length, map, Option, Some, None, refl, sym, ap, subst, ◌∙◌, arith, inl, inr}
-use Rattle.std.specs.Prelude.{slice_get}
-use Rattle.std.specs.List.{Contains}
-use Rattle.std.proofs.lemmas.List.{get_or-map, length-map, map-append, map_push}
 use Rattle.std.proofs.lemmas.List.Elements.{Contains-append_cases, Contains-append_left, Contains-append_right, Contains-push, Contains-push_cases}
+use Rattle.std.{specs.Prelude.slice_get, specs.List.Contains, proofs.lemmas.List.get_or-map, proofs.lemmas.List.length-map, proofs.lemmas.List.map-append, proofs.lemmas.List.map_push}
 use Rattle.std.proofs.lemmas.Option.{slice_get-get_or}
-use Rattle.of_layers.specs.declared.field.Field.{Field}
-use Rattle.of_layers.specs.Reading.{layers_of}
+use Rattle.of_layers.specs.{declared.field.Field.Field, Reading.layers_of}
 use Rattle.of_headers.specs.FieldMap.{field_map}
-use Rattle.of_oxm.specs.declared.match_field.MatchField.{MatchField}
-use Rattle.of_oxm.specs.Relations.{matches_map}
-use Rattle.of_frames.specs.declared.shape.Shape.{Shape}
-use Rattle.of_frames.specs.declared.shape.Tagging.{Tagging}
-use Rattle.of_frames.specs.Rules.{HasShape, IsTagging, shape_of, tagging_of}
+use Rattle.of_oxm.specs.{declared.match_field.MatchField.MatchField, Relations.matches_map}
+use Rattle.of_frames.specs.{declared.shape.Shape.Shape, declared.shape.Tagging.Tagging, Rules.HasShape, Rules.IsTagging, Rules.shape_of, Rules.tagging_of}
 use Rattle.of_frames.proofs.Shapes.{shaped, tags_seen}
-use Rattle.of_regions.specs.declared.looking.Rest.{Rest}
-use Rattle.of_regions.specs.declared.region.Region.{Region}
-use Rattle.of_regions.specs.declared.rival.Rival.{Rival}
-use Rattle.of_regions.specs.Naming.{with_place}
-use Rattle.of_regions.specs.Dividing.{AreDividedBy}
-use Rattle.of_regions.specs.Regions.{InRegion}
-use Rattle.of_regions.specs.Witness.{HasNoIngress}
-use Rattle.of_regions.specs.declared.searching.Found.{Found}
-use Rattle.of_regions.specs.declared.searching.Found.TheVariants.{Undecided}
-use Rattle.of_regions.specs.declared.witness.Packet.{Packet}
-use Rattle.of_regions.specs.Witness.{fields_in}
 use Rattle.of_regions.specs.Searching.{IsOfNoPort, NoneReceived, TakesSome, AreApartBefore, AreSteps, AreTaking, IsFoundBySearch, InRests, InSome, IsRivalled, IsSplit, IsState, IsStep, IsTakenByRival, IsUnreceived, IsUnrivalled, regions_in}
+use Rattle.of_regions.specs.{declared.looking.Rest.Rest, declared.region.Region.Region, declared.rival.Rival.Rival, Naming.with_place, Dividing.AreDividedBy, Regions.InRegion}
+use Rattle.of_regions.specs.{Witness.HasNoIngress, Witness.fields_in, declared.searching.Found.Found, declared.searching.Found.TheVariants.Undecided, declared.witness.Packet.Packet}
 use Rattle.of_regions.proofs.NamingLemmas.{is_named, still_ascending}
 
 none_of : {X : Type 0} (x : X) → Contains [] x → ⊥

@@ -1,20 +1,12 @@
 -- The regions with which a search begins.
 use Rattle.std.proofs.Common.{◌≡◌, ℕ, zero, suc, get_or, ◌⊎◌, ◌<◌, ◌≤◌, ◌+◌, true, List, [], ◌∷◌, ◌++◌, length, Option, Some, None, refl, sym, ap, subst, ◌∙◌, arith, inl, inr}
-use Rattle.std.specs.Prelude.{IfSome}
-use Rattle.std.specs.List.{Contains}
-use Rattle.std.proofs.lemmas.List.{length-append}
+use Rattle.std.{specs.Prelude.IfSome, specs.List.Contains, proofs.lemmas.List.length-append}
 use Rattle.std.proofs.lemmas.List.Elements.{Contains-append_cases, Contains-append_left, Contains-append_right, Contains-push_cases}
 use Rattle.of_layers.specs.declared.field.Field.{Field}
-use Rattle.of_oxm.specs.declared.match_field.MatchField.{MatchField}
-use Rattle.of_oxm.specs.Relations.{matches_map}
-use Rattle.of_frames.specs.declared.shape.Shape.{Shape}
-use Rattle.of_frames.specs.declared.shape.Tagging.{Tagging}
-use Rattle.of_frames.specs.declared.shape.Tagging.TheVariants.{Untagged, Tagged}
+use Rattle.of_oxm.specs.{declared.match_field.MatchField.MatchField, Relations.matches_map}
+use Rattle.of_frames.specs.{declared.shape.Shape.Shape, declared.shape.Tagging.Tagging, declared.shape.Tagging.TheVariants.Untagged, declared.shape.Tagging.TheVariants.Tagged}
 use Rattle.of_frames.specs.Rules.{HasShape, IsTagging}
-use Rattle.of_regions.specs.declared.region.Region.{Region}
-use Rattle.of_regions.specs.Regions.{InRegion, InOneRegion}
-use Rattle.of_regions.specs.Searching.{InSome}
-use Rattle.of_regions.specs.Starting.{IsBegun, region_list}
+use Rattle.of_regions.specs.{declared.region.Region.Region, Regions.InRegion, Regions.InOneRegion, Searching.InSome, Starting.IsBegun, Starting.region_list}
 
 none_of : (x : Region) → Contains [] x → ⊥
 none_of x c = absurd (omega (arith, c.1))

@@ -1,36 +1,22 @@
 -- What is known of a region is known of frames of its shape.
 use Rattle.std.proofs.Common.{◌≡◌, ℕ, ◌≤◌, true, List, length, Option, Some, None, Ok, Err, refl, sym, ap, ◌∙◌, arith, inl, inr, ◌<◌, ◌^◌, ◌%◌}
 use Rattle.std.specs.Prelude.{bit_and, unwrap_or, IfOk, IfSome, Result}
-use Rattle.std.specs.Int.Bits.{and_comm}
-use Rattle.std.proofs.lemmas.Bool.{cases_lt}
-use Rattle.std.proofs.lemmas.Nat.{and_assoc, and_le_l, pow_below, pow_pos}
+use Rattle.std.{specs.Int.Bits.and_comm, proofs.lemmas.Bool.cases_lt, proofs.lemmas.Nat.and_assoc, proofs.lemmas.Nat.and_le_l, proofs.lemmas.Nat.pow_below, proofs.lemmas.Nat.pow_pos}
 use Rattle.std.proofs.lemmas.Grind.{and_numeral}
-use Rattle.of_regions.specs.Dividing.{AreWithout, IsBitOf}
+use Rattle.of_regions.specs.{Dividing.AreWithout, Dividing.IsBitOf, declared.region.Region.Region, Witness.IsFrameIn, Witness.IsIngressPort, Known.AllKnown, Known.is_known_by, Known.rule_in}
+use Rattle.of_regions.proofs.{BuildingLemmas.known_within, JoiningLemmas.parts, TaggingLemmas.free_mask}
 use Rattle.of_layers.specs.declared.field.Field.{Field}
 use Rattle.of_layers.specs.declared.field.Field.TheVariants.{InPort, Metadata, VlanVid, VlanPcp}
-use Rattle.of_layers.specs.Fields.{ones_of, row_of}
-use Rattle.of_layers.specs.Layers.{Layers}
-use Rattle.of_layers.specs.Reading.{layers_of}
+use Rattle.of_layers.specs.{Fields.ones_of, Fields.row_of, Layers.Layers, Reading.layers_of}
 use Rattle.of_headers.specs.FieldMap.{field_map, seen, value}
 use Rattle.of_oxm.specs.Masks.{mask_at}
-use Rattle.of_frames.specs.declared.shape.Shape.{Shape}
-use Rattle.of_frames.specs.declared.shape.Shape.TheVariants as shapes
-use Rattle.of_frames.specs.declared.shape.Tagging.{Tagging}
-use Rattle.of_frames.specs.declared.shape.Tagging.TheVariants.{Untagged, Tagged}
-use Rattle.of_frames.specs.declared.shape.Rule.{Rule}
-use Rattle.of_frames.specs.declared.shape.Rule.TheVariants.{Free, Absent, Under}
 use Rattle.of_frames.specs.Rules.{HasShape, IsTagging, Obeys, of_shape, of_tagging}
-use Rattle.of_frames.specs.Given.{or_zero}
-use Rattle.of_frames.specs.Knowing.{IsAmong, IsKnown}
-use Rattle.of_frames.specs.Packets.{frame_given, frame_size, layers_given, tags_given}
+use Rattle.of_frames.specs.{declared.shape.Shape.Shape, declared.shape.Tagging.Tagging, declared.shape.Tagging.TheVariants.Untagged, declared.shape.Tagging.TheVariants.Tagged}
+use Rattle.of_frames.specs.{declared.shape.Rule.Rule, declared.shape.Rule.TheVariants.Free, declared.shape.Rule.TheVariants.Absent, declared.shape.Rule.TheVariants.Under, Given.or_zero}
+use Rattle.of_frames.specs.{Knowing.IsAmong, Knowing.IsKnown, Packets.frame_given, Packets.frame_size, Packets.layers_given, Packets.tags_given}
 use Rattle.of_frames.proofs.KnownLemmas.{among}
-use Rattle.of_regions.specs.declared.region.Region.{Region}
-use Rattle.of_regions.specs.Witness.{IsFrameIn, IsIngressPort}
+use Rattle.of_frames.specs.declared.shape.Shape.TheVariants as shapes
 use Rattle.of_rewrite.specs.Frames.{IsFrame}
-use Rattle.of_regions.specs.Known.{AllKnown, is_known_by, rule_in}
-use Rattle.of_regions.proofs.BuildingLemmas.{known_within}
-use Rattle.of_regions.proofs.JoiningLemmas.{parts}
-use Rattle.of_regions.proofs.TaggingLemmas.{free_mask}
 
 -- ---- field by field
 

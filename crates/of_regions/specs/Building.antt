@@ -1,16 +1,10 @@
 -- What is known of fields, one after the other.
 use Rattle.std.specs.Prelude.{◌≡◌, ℕ, List, Option, None, IfSome}
-use Rattle.of_layers.specs.declared.field.Field.{Field}
-use Rattle.of_layers.specs.Fields.{ones_of}
+use Rattle.of_layers.specs.{declared.field.Field.Field, Fields.ones_of}
 use Rattle.of_headers.specs.FieldMap.{value}
-use Rattle.of_oxm.specs.Masks.{mask_at, looked_at, value_of}
-use Rattle.of_oxm.specs.declared.match_field.MatchField.{MatchField}
-use Rattle.of_frames.specs.declared.shape.Shape.{Shape}
-use Rattle.of_frames.specs.declared.shape.Tagging.{Tagging}
-use Rattle.of_regions.specs.declared.building.Fields.{Fields}
-use Rattle.of_regions.specs.declared.joining.Bits.{Bits}
-use Rattle.of_regions.specs.Joining.{Joined}
-use Rattle.of_regions.specs.Known.{rule_in}
+use Rattle.of_oxm.specs.{Masks.mask_at, Masks.looked_at, Masks.value_of, declared.match_field.MatchField.MatchField}
+use Rattle.of_frames.specs.{declared.shape.Shape.Shape, declared.shape.Tagging.Tagging}
+use Rattle.of_regions.specs.{declared.building.Fields.Fields, declared.joining.Bits.Bits, Joining.Joined, Known.rule_in}
 
 abbrev pub bits_at : Fields → Field → Bits
 bits_at fields f = record { mask = mask_at fields.masks f; known = value fields.known f }

@@ -1,13 +1,9 @@
 -- How regions are divided: by a bit that the field of a match looks at, or by tags.
 use Rattle.std.specs.Prelude.{◌≡◌, ◌<◌, ◌⊎◌, ◌^◌, ℕ, Option, None, Some, bit_and}
-use Rattle.of_layers.specs.declared.field.Field.{Field}
-use Rattle.of_layers.specs.declared.field.Field.TheVariants.{VlanVid}
+use Rattle.of_layers.specs.{declared.field.Field.Field, declared.field.Field.TheVariants.VlanVid}
 use Rattle.of_headers.specs.FieldMap.{seen}
-use Rattle.of_oxm.specs.declared.match_field.MatchField.{MatchField}
-use Rattle.of_oxm.specs.Masks.{mask_at}
-use Rattle.of_oxm.specs.Relations.{bits_looked_at}
-use Rattle.of_regions.specs.declared.region.Region.{Region}
-use Rattle.of_regions.specs.Regions.{AreParts, InRegion}
+use Rattle.of_oxm.specs.{declared.match_field.MatchField.MatchField, Masks.mask_at, Relations.bits_looked_at}
+use Rattle.of_regions.specs.{declared.region.Region.Region, Regions.AreParts, Regions.InRegion}
 
 -- one of these bits
 pub record IsBitOf (bits bit : ℕ) : Type 0 where

@@ -1,11 +1,8 @@
 -- A field that obeys a rule, and of which a match asks some bits.
 use Rattle.std.specs.Prelude.{◌≡◌, ℕ, true, Option, Some, None, bit_and}
 use Rattle.of_headers.specs.FieldMap.{seen}
-use Rattle.of_frames.specs.declared.shape.Rule.{Rule}
-use Rattle.of_frames.specs.declared.shape.Rule.TheVariants.{Free, Absent, Under}
-use Rattle.of_frames.specs.Rules.{Obeys}
-use Rattle.of_regions.specs.declared.joining.Bits.{Bits}
-use Rattle.of_regions.specs.Known.{is_known_by}
+use Rattle.of_frames.specs.{declared.shape.Rule.Rule, declared.shape.Rule.TheVariants.Free, declared.shape.Rule.TheVariants.Absent, declared.shape.Rule.TheVariants.Under, Rules.Obeys}
+use Rattle.of_regions.specs.{declared.joining.Bits.Bits, Known.is_known_by}
 
 -- a rule says bits under its mask, which the field has
 abbrev pub IsRule : ℕ → Rule → Type 0

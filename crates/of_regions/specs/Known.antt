@@ -1,13 +1,8 @@
 -- WHAT IS KNOWN OF THE FIELDS OF PACKETS OF ONE SHAPE (OpenFlow 1.3.5, 7.2.3.7 and 7.2.3.8).
 use Rattle.std.specs.Prelude.{◌≡◌, ℕ, ◌==◌, ◌&&◌, nat_le, Bool, true, false, Option, Some, None, bit_and}
-use Rattle.of_layers.specs.declared.field.Field.{Field}
-use Rattle.of_layers.specs.declared.field.Field.TheVariants.{VlanVid, VlanPcp}
-use Rattle.of_layers.specs.Fields.{ones_of}
-use Rattle.of_frames.specs.declared.shape.Shape.{Shape}
-use Rattle.of_frames.specs.declared.shape.Tagging.{Tagging}
-use Rattle.of_frames.specs.declared.shape.Rule.{Rule}
-use Rattle.of_frames.specs.declared.shape.Rule.TheVariants.{Free, Absent, Under}
-use Rattle.of_frames.specs.Rules.{of_shape, of_tagging}
+use Rattle.of_layers.specs.{declared.field.Field.Field, declared.field.Field.TheVariants.VlanVid, declared.field.Field.TheVariants.VlanPcp, Fields.ones_of}
+use Rattle.of_frames.specs.{declared.shape.Shape.Shape, declared.shape.Tagging.Tagging, declared.shape.Rule.Rule}
+use Rattle.of_frames.specs.{declared.shape.Rule.TheVariants.Free, declared.shape.Rule.TheVariants.Absent, declared.shape.Rule.TheVariants.Under, Rules.of_shape, Rules.of_tagging}
 
 -- ---- what the shape says about a field; about those of a tag what the tagging says, if it is known
 

@@ -3,13 +3,9 @@ use Rattle.std.specs.Prelude.{◌≡◌, ℕ, ◌==◌, ◌&&◌, Bool, true, fa
 use Rattle.std.specs.List.{Contains, list_any}
 use Rattle.of_layers.specs.declared.field.Field.{Field}
 use Rattle.of_headers.specs.FieldMap.{value}
-use Rattle.of_oxm.specs.declared.match_field.MatchField.{MatchField}
-use Rattle.of_oxm.specs.Masks.{mask_at}
-use Rattle.of_oxm.specs.Relations.{bits_looked_at, matches_map}
-use Rattle.of_regions.specs.declared.meeting.Meeting.{Meeting}
-use Rattle.of_regions.specs.declared.meeting.Meeting.TheVariants.{Apart, Whole, Crosses}
-use Rattle.of_regions.specs.declared.region.Region.{Region}
-use Rattle.of_regions.specs.Regions.{InRegion}
+use Rattle.of_oxm.specs.{declared.match_field.MatchField.MatchField, Masks.mask_at, Relations.bits_looked_at, Relations.matches_map}
+use Rattle.of_regions.specs.{declared.meeting.Meeting.Meeting, declared.meeting.Meeting.TheVariants.Apart, declared.meeting.Meeting.TheVariants.Whole, declared.meeting.Meeting.TheVariants.Crosses}
+use Rattle.of_regions.specs.{declared.region.Region.Region, Regions.InRegion}
 
 -- a field of a match agrees with whatever has these bits under this mask
 abbrev pub is_settled : MatchField → Option ℕ → Option ℕ → Bool

@@ -1,13 +1,9 @@
 -- THE PACKETS OF REGIONS on which conditions agree.
 use Rattle.std.specs.Prelude.{◌≡◌, ◌⊎◌, ℕ, Bool, true, false, List, Option}
 use Rattle.std.specs.List.{Contains}
-use Rattle.of_layers.specs.declared.field.Field.{Field}
-use Rattle.of_layers.specs.declared.field.Field.TheVariants.{VlanPcp, VlanVid}
-use Rattle.of_oxm.specs.declared.match_field.MatchField.{MatchField}
-use Rattle.of_oxm.specs.Relations.{matches_map}
-use Rattle.of_regions.specs.declared.region.Region.{Region}
-use Rattle.of_regions.specs.Regions.{InRegion, IsSomeTagging}
-use Rattle.of_regions.specs.Searching.{InSome}
+use Rattle.of_layers.specs.{declared.field.Field.Field, declared.field.Field.TheVariants.VlanPcp, declared.field.Field.TheVariants.VlanVid}
+use Rattle.of_oxm.specs.{declared.match_field.MatchField.MatchField, Relations.matches_map}
+use Rattle.of_regions.specs.{declared.region.Region.Region, Regions.InRegion, Regions.IsSomeTagging, Searching.InSome}
 
 -- a condition on the outermost VLAN tag
 abbrev pub is_of_tag : Field → Bool

@@ -3,9 +3,7 @@ use Rattle.std.specs.Prelude.{◌≡◌, ◌⊎◌, ℕ, Option, Some, None}
 use Rattle.of_layers.specs.declared.field.Field.{Field}
 use Rattle.of_headers.specs.FieldMap.{value}
 use Rattle.of_oxm.specs.Masks.{mask_at}
-use Rattle.of_frames.specs.declared.shape.Tagging.{Tagging}
-use Rattle.of_frames.specs.Rules.{IsTagging}
-use Rattle.of_frames.specs.Knowing.{IsAmong}
+use Rattle.of_frames.specs.{declared.shape.Tagging.Tagging, Rules.IsTagging, Knowing.IsAmong}
 use Rattle.of_regions.specs.declared.region.Region.{Region}
 
 -- a field map that agrees with what is known

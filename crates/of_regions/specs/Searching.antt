@@ -1,31 +1,17 @@
 -- A SEARCH FOR A PACKET of some regions that no rival matches: rivals are matches that go before (OpenFlow 1.3.5, 5.3).
 use Rattle.std.specs.Prelude.{◌≡◌, ◌<◌, ◌≤◌, ◌⊎◌, ◌++◌, ℕ, zero, suc, true, false, List, [], ◌∷◌, length, Option, Some, None, IfSome, map, slice_get}
 use Rattle.std.specs.List.{Contains}
-use Rattle.of_layers.specs.declared.field.Field.{Field}
-use Rattle.of_layers.specs.declared.field.Field.TheVariants.{InPort}
-use Rattle.of_layers.specs.Reading.{layers_of}
+use Rattle.of_layers.specs.{declared.field.Field.Field, declared.field.Field.TheVariants.InPort, Reading.layers_of}
 use Rattle.of_headers.specs.FieldMap.{field_map}
-use Rattle.of_oxm.specs.declared.match_field.MatchField.{MatchField}
-use Rattle.of_oxm.specs.Relations.{matches_map}
+use Rattle.of_oxm.specs.{declared.match_field.MatchField.MatchField, Relations.matches_map}
 use Rattle.of_rewrite.specs.Frames.{IsFrame}
-use Rattle.of_frames.specs.declared.shape.Shape.{Shape}
-use Rattle.of_frames.specs.declared.shape.Tagging.{Tagging}
-use Rattle.of_frames.specs.Rules.{HasShape, IsTagging}
-use Rattle.of_regions.specs.declared.meeting.Meeting.TheVariants.{Apart, Whole, Crosses}
-use Rattle.of_regions.specs.declared.region.Region.{Region}
-use Rattle.of_regions.specs.declared.rival.Rival.{Rival}
-use Rattle.of_regions.specs.declared.looking.Rest.{Rest}
-use Rattle.of_regions.specs.declared.looking.Look.{Look}
-use Rattle.of_regions.specs.declared.looking.Look.TheVariants.{Free, Taken, Splits}
-use Rattle.of_regions.specs.declared.searching.Found.{Found}
-use Rattle.of_regions.specs.declared.searching.Found.TheVariants as found
-use Rattle.of_regions.specs.declared.witness.Packet.{Packet}
-use Rattle.of_regions.specs.Conditions.{IsCondition}
-use Rattle.of_regions.specs.Meeting.{Meets}
-use Rattle.of_regions.specs.Naming.{AreAscending}
-use Rattle.of_regions.specs.Dividing.{AreDividedBy}
-use Rattle.of_regions.specs.Regions.{InRegion}
+use Rattle.of_frames.specs.{declared.shape.Shape.Shape, declared.shape.Tagging.Tagging, Rules.HasShape, Rules.IsTagging}
 use Rattle.of_regions.specs.Witness.{HasNoIngress, IsIngressPort, IsReceived, IsShortFrame, fields_in}
+use Rattle.of_regions.specs.{declared.meeting.Meeting.TheVariants.Apart, declared.meeting.Meeting.TheVariants.Whole, declared.meeting.Meeting.TheVariants.Crosses, declared.region.Region.Region}
+use Rattle.of_regions.specs.{declared.rival.Rival.Rival, declared.looking.Rest.Rest, declared.looking.Look.Look}
+use Rattle.of_regions.specs.{declared.looking.Look.TheVariants.Free, declared.looking.Look.TheVariants.Taken, declared.looking.Look.TheVariants.Splits, declared.searching.Found.Found}
+use Rattle.of_regions.specs.{declared.witness.Packet.Packet, Conditions.IsCondition, Meeting.Meets, Naming.AreAscending, Dividing.AreDividedBy, Regions.InRegion}
+use Rattle.of_regions.specs.declared.searching.Found.TheVariants as found
 
 -- no rival matches it
 abbrev pub IsUnrivalled : List Rival → (Field → Option ℕ) → Type 0

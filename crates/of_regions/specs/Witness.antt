@@ -1,15 +1,11 @@
 -- PACKETS OF A REGION that a switch may receive.
 use Rattle.std.specs.Prelude.{◌≡◌, ℕ, ◌≤◌, ◌<◌, ◌^◌, ◌⊎◌, List, length, Option, Some, IfSome}
 use Rattle.of_wire.specs.declared.limits.TheConstants.{OFPP_CONTROLLER, OFPP_MAX}
-use Rattle.of_layers.specs.declared.field.Field.{Field}
-use Rattle.of_layers.specs.declared.field.Field.TheVariants.{InPort, Metadata}
-use Rattle.of_layers.specs.Reading.{layers_of}
+use Rattle.of_layers.specs.{declared.field.Field.Field, declared.field.Field.TheVariants.InPort, declared.field.Field.TheVariants.Metadata, Reading.layers_of}
 use Rattle.of_headers.specs.FieldMap.{field_map, seen, value}
 use Rattle.of_oxm.specs.Masks.{mask_at}
 use Rattle.of_rewrite.specs.Frames.{IsFrame}
-use Rattle.of_regions.specs.declared.region.Region.{Region}
-use Rattle.of_regions.specs.declared.witness.Packet.{Packet}
-use Rattle.of_regions.specs.Regions.{InRegion}
+use Rattle.of_regions.specs.{declared.region.Region.Region, declared.witness.Packet.Packet, Regions.InRegion}
 
 -- a port that a switch may have, or CONTROLLER, which a PACKET_OUT may give as that of its frame (OpenFlow 1.3.5, 7.2.1 and 7.3.7)
 abbrev pub IsIngressPort : ℕ → Type 0

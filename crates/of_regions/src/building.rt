@@ -1,18 +1,11 @@
 //! The region of a match.
 ghost use Rattle.std.specs.Prelude.{◌≡◌, ◌≤◌, ◌==◌, ℕ, Option, Some, None, IfNone, IfSome, if◌then◌else◌, true};
-ghost use Rattle.of_layers.specs.declared.field.Field.{Field as TheField};
-ghost use Rattle.of_layers.specs.declared.field.Field.TheVariants.{VlanPcp, VlanVid};
+ghost use Rattle.of_layers.specs.{declared.field.Field.Field as TheField, declared.field.Field.TheVariants.VlanPcp, declared.field.Field.TheVariants.VlanVid};
 ghost use Rattle.of_layers.specs.Fields.{all_fields, number_of, ones_of};
-ghost use Rattle.of_headers.specs.FieldMap.{value};
-ghost use Rattle.of_oxm.specs.Masks.{looked_at, mask_at, value_of};
-ghost use Rattle.of_oxm.specs.Relations.{matches_map};
-ghost use Rattle.of_frames.specs.Rules.{HasShape};
-ghost use Rattle.of_headers.specs.FieldMap.{seen};
-ghost use Rattle.of_frames.specs.Rules.{Obeys};
-ghost use Rattle.of_frames.specs.declared.shape.Rule.TheVariants.{Free};
-ghost use Rattle.of_regions.specs.Building.{AreOthers, IsBegunField, IsUnknown, bits_at};
-ghost use Rattle.of_regions.specs.Joining.{IsAsked, IsRule, Joined};
-ghost use Rattle.of_regions.specs.Known.{rule_in as rule_is};
+ghost use Rattle.of_headers.specs.FieldMap.{value, seen};
+ghost use Rattle.of_oxm.specs.{Masks.looked_at, Masks.mask_at, Masks.value_of, Relations.matches_map};
+ghost use Rattle.of_frames.specs.{Rules.HasShape, Rules.Obeys, declared.shape.Rule.TheVariants.Free};
+ghost use Rattle.of_regions.specs.{Building.AreOthers, Building.IsBegunField, Building.IsUnknown, Building.bits_at, Joining.IsAsked, Joining.IsRule, Joining.Joined, Known.rule_in as rule_is};
 ghost use Rattle.of_regions.specs.Regions.{HasTagging, InRegion, InOneRegion};
 
 use crate::joining::{Bits, joined};

@@ -1,17 +1,11 @@
 //! Regions in two parts.
 ghost use Rattle.std.specs.Prelude.{◌≡◌, ◌<◌, ◌==◌, ◌⊎◌, ℕ, Option, Some, None, if◌then◌else◌, true};
-ghost use Rattle.of_layers.specs.declared.field.Field.{Field as TheField};
-ghost use Rattle.of_layers.specs.Fields.{number_of, ones_of};
-ghost use Rattle.of_layers.specs.declared.field.Field.TheVariants.{VlanVid};
+ghost use Rattle.of_layers.specs.{declared.field.Field.Field as TheField, Fields.number_of, Fields.ones_of, declared.field.Field.TheVariants.VlanVid};
 ghost use Rattle.of_headers.specs.FieldMap.{seen, value};
-ghost use Rattle.of_frames.specs.declared.shape.Tagging.TheVariants.{Tagged, Untagged};
+ghost use Rattle.of_frames.specs.{declared.shape.Tagging.TheVariants.Tagged, declared.shape.Tagging.TheVariants.Untagged, Rules.IsTagging};
 ghost use Rattle.of_oxm.specs.Masks.{mask_at};
-ghost use Rattle.of_frames.specs.Rules.{IsTagging};
-ghost use Rattle.of_regions.specs.Conditions.{IsCondition};
 ghost use Rattle.of_regions.specs.Dividing.{AreDividedBy, AreWithout, IsBitOf, IsByBit, IsByTag};
-ghost use Rattle.of_regions.specs.Known.{is_known_by, rule_in};
-ghost use Rattle.of_regions.specs.Meeting.{IsCrossed};
-ghost use Rattle.of_regions.specs.Regions.{AreParts, InRegion, IsEither};
+ghost use Rattle.of_regions.specs.{Conditions.IsCondition, Known.is_known_by, Known.rule_in, Meeting.IsCrossed, Regions.AreParts, Regions.InRegion, Regions.IsEither};
 
 use crate::meeting::is_apart;
 use crate::region::Region;

@@ -2,8 +2,7 @@
 ghost use Rattle.std.specs.Prelude.{◌≡◌, ◌≤◌, ℕ, Option, None, IfNone, IfSome, bit_and};
 ghost use Rattle.of_layers.specs.Fields.{ones_of};
 ghost use Rattle.of_headers.specs.FieldMap.{seen};
-ghost use Rattle.of_frames.specs.Rules.{Obeys};
-ghost use Rattle.of_frames.specs.declared.shape.Rule.TheVariants.{Free};
+ghost use Rattle.of_frames.specs.{Rules.Obeys, declared.shape.Rule.TheVariants.Free};
 ghost use Rattle.of_regions.specs.Joining.{IsAsked, IsRule, Joined};
 
 use of_frames::Rule;

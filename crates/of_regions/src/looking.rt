@@ -1,8 +1,6 @@
 //! What the rivals of a match do with a region that is left.
 ghost use Rattle.std.specs.List.{Contains};
-ghost use Rattle.of_regions.specs.declared.rival.Rival.{Rival as TheRival};
-ghost use Rattle.of_regions.specs.Conditions.{AreConditions};
-ghost use Rattle.of_regions.specs.Searching.{AreApartBefore, IsLook};
+ghost use Rattle.of_regions.specs.{declared.rival.Rival.Rival as TheRival, Conditions.AreConditions, Searching.AreApartBefore, Searching.IsLook};
 
 use crate::meeting::Meeting;
 use crate::region::Region;

@@ -1,6 +1,5 @@
 //! What a match does with a region.
-ghost use Rattle.std.specs.Prelude.{◌≡◌, find, not};
-ghost use Rattle.std.specs.List.{list_any};
+ghost use Rattle.std.specs.{Prelude.◌≡◌, Prelude.find, Prelude.not, List.list_any};
 ghost use Rattle.of_headers.specs.FieldMap.{value};
 ghost use Rattle.of_oxm.specs.Masks.{mask_at};
 ghost use Rattle.of_regions.specs.Meeting.{Meets, is_apart as apart, is_settled as settled};

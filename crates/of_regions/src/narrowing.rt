@@ -3,12 +3,8 @@ ghost use Rattle.std.specs.Prelude.{◌≡◌, ◌≢◌, ◌++◌, ℕ, Option,
 ghost use Rattle.std.specs.List.{Contains, list_any};
 ghost use Rattle.of_layers.specs.declared.field.Field.{Field as TheField};
 ghost use Rattle.of_headers.specs.FieldMap.{value};
-ghost use Rattle.of_oxm.specs.declared.match_field.MatchField.{MatchField as TheMatchField};
-ghost use Rattle.of_oxm.specs.Masks.{mask_at};
-ghost use Rattle.of_oxm.specs.Relations.{agrees, matches_map};
-ghost use Rattle.of_regions.specs.Conditions.{AreConditions, IsCondition};
-ghost use Rattle.of_regions.specs.Narrowing.{AreNarrowed, IsNarrowedBy, is_tag_field};
-ghost use Rattle.of_regions.specs.Regions.{InRegion, InOneRegion};
+ghost use Rattle.of_oxm.specs.{declared.match_field.MatchField.MatchField as TheMatchField, Masks.mask_at, Relations.agrees, Relations.matches_map};
+ghost use Rattle.of_regions.specs.{Conditions.AreConditions, Conditions.IsCondition, Narrowing.AreNarrowed, Narrowing.IsNarrowedBy, Narrowing.is_tag_field, Regions.InRegion, Regions.InOneRegion};
 
 use crate::region::Region;
 use crate::starting::push_some;

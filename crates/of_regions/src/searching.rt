@@ -1,12 +1,9 @@
 //! A search for a packet that a match matches and none of its rivals.
 ghost use Rattle.std.specs.Prelude.{◌≡◌, ◌<◌, ◌++◌, ◌∷◌, [], ℕ, nat_le, List, None, IfNone, IfOk, IfSome, OnOk, map};
 ghost use Rattle.std.specs.List.{Contains, position};
-ghost use Rattle.of_regions.specs.declared.region.Region.{Region as TheRegion};
-ghost use Rattle.of_regions.specs.declared.rival.Rival.{Rival as TheRival};
-ghost use Rattle.of_regions.specs.declared.searching.Found.TheVariants.{Undecided};
-ghost use Rattle.of_regions.specs.Conditions.{AreConditions};
-ghost use Rattle.of_regions.specs.Naming.{with_place};
 ghost use Rattle.of_regions.specs.Searching.{AreApartBefore, Finds, IsFoundBySearch, IsFreePacket, IsState, IsStep, regions_in};
+ghost use Rattle.of_regions.specs.{declared.region.Region.Region as TheRegion, declared.rival.Rival.Rival as TheRival, declared.searching.Found.TheVariants.Undecided, Conditions.AreConditions};
+ghost use Rattle.of_regions.specs.Naming.{with_place};
 
 use crate::looking::{Look, Rest, look_at};
 use crate::region::Region;

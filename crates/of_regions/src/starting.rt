@@ -4,8 +4,7 @@ ghost use Rattle.std.specs.List.{Contains};
 ghost use Rattle.of_layers.specs.declared.field.Field.TheVariants.{VlanPcp, VlanVid};
 ghost use Rattle.of_oxm.specs.Masks.{looked_at, mask_at};
 ghost use Rattle.of_frames.specs.declared.shape.Shape.{Shape as TheShape};
-ghost use Rattle.of_regions.specs.Searching.{IsStart};
-ghost use Rattle.of_regions.specs.Starting.{IsBegun, region_list};
+ghost use Rattle.of_regions.specs.{Searching.IsStart, Starting.IsBegun, Starting.region_list};
 
 use crate::region::Region;
 use of_frames::{Shape, Tagging};

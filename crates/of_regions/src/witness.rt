@@ -1,8 +1,8 @@
 //! Packets of a region.
 ghost use Rattle.std.specs.Prelude.{◌≡◌, ℕ, IfNone, IfOk, IfSome, bit_and};
 ghost use Rattle.of_layers.specs.declared.field.Field.TheVariants.{InPort, Metadata};
-ghost use Rattle.of_regions.specs.Regions.{InRegion};
 ghost use Rattle.of_regions.specs.Witness.{HasNoIngress, IsFrameIn, IsIngressPort, IsReceived, IsShortFrame, MayBe, fields_in};
+ghost use Rattle.of_regions.specs.Regions.{InRegion};
 
 use crate::dividing::{lowest, without};
 use crate::region::Region;

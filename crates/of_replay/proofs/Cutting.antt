@@ -1,10 +1,6 @@
 -- Bytes cut into lines, and what is kept of a line.
 use Rattle.std.proofs.Common.{◌≡◌, ℕ, ◌+◌, ◌-◌, ◌<◌, ◌≤◌, suc, zero, eqb, Bool, true, false, cond, length, take, drop, List, [], ◌∷◌, ◌++◌, Option, Some, None, refl, sym, ◌∙◌, ap, subst, append_assoc, add-one, arith}
-use Rattle.std.proofs.lemmas.List.{append-nil}
-use Rattle.std.specs.Prelude.{position, nat_lt}
-use Rattle.std.specs.List.{position_or_len}
-use Rattle.std.specs.Option.{option_map}
-use Rattle.std.proofs.lemmas.Bool.Decides.{nat_tests}
+use Rattle.std.{specs.Prelude.position, specs.Prelude.nat_lt, specs.List.position_or_len, specs.Option.option_map, proofs.lemmas.List.append-nil, proofs.lemmas.Bool.Decides.nat_tests}
 use Rattle.of_replay.specs.Lexing.{whole_from, last_from}
 
 -- THE KEPT PART OF A LINE

@@ -1,17 +1,10 @@
 -- What is written before the next read.
 use Rattle.std.proofs.Common.{◌≡◌, ℕ, false, List, [], ◌∷◌, ◌++◌, Option, sym, ◌∙◌, ap, subst, append_assoc}
-use Rattle.std.specs.Io.KnownBytes.{Appends}
-use Rattle.std.proofs.lemmas.List.{append-nil}
+use Rattle.std.{specs.Io.KnownBytes.Appends, proofs.lemmas.List.append-nil}
 use Rattle.of_switch.specs.State.{State}
-use Rattle.of_replay.specs.Lexing.{whole_lines}
-use Rattle.of_replay.specs.Told.{Answer, Known, Answers, given}
-use Rattle.of_replay.specs.Transfer.{Grows}
-use Rattle.of_replay.specs.Play.{earlier_lines, lines_read, WrittenEarly}
-use Rattle.of_replay.specs.RowTexts.{RowText, told}
-use Rattle.of_replay.specs.Stepping.{ReadSoFar}
-use Rattle.of_replay.proofs.Lines.{within_open}
-use Rattle.of_replay.proofs.TellingLemmas.{appends-none, appends-then, answers-none, told_more}
-use Rattle.of_replay.proofs.WholeRuns.{before_one}
+use Rattle.of_replay.specs.{Lexing.whole_lines, Told.Answer, Told.Known, Told.Answers, Told.given, Transfer.Grows, Play.earlier_lines, Play.lines_read, Play.WrittenEarly}
+use Rattle.of_replay.{specs.RowTexts.RowText, specs.RowTexts.told, specs.Stepping.ReadSoFar, proofs.Lines.within_open}
+use Rattle.of_replay.proofs.{TellingLemmas.appends-none, TellingLemmas.appends-then, TellingLemmas.answers-none, TellingLemmas.told_more, WholeRuns.before_one}
 
 pub grows_none : (k : Option (List ℕ)) → Grows k k
 grows_none k = ([], appends-none k)

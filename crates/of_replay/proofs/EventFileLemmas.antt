@@ -1,18 +1,12 @@
 -- The switch after an event file.
 use Rattle.std.proofs.Common.{◌≡◌, ℕ, ◌+◌, Bool, true, false, List, Option, Some, None, Ok, Err, refl, sym, ◌∙◌, ap, arith}
 use Rattle.std.specs.Prelude.{nat_lt}
-use Rattle.of_switch.specs.State.{State, start}
-use Rattle.of_switch.specs.Runs.{run}
+use Rattle.of_switch.specs.{State.State, State.start, Runs.run}
+use Rattle.of_replay.specs.FileRuns.{FileOutcome, IsValue, IsBad, HasFault, ReadsWhole, event_file}
 use Rattle.of_replay.specs.declared.halt.Halt.{Halt}
 use Rattle.of_replay.specs.declared.halt.Halt.TheVariants.{Bad, Memory, Read, Write}
-use Rattle.of_replay.specs.Told.{Known, given}
-use Rattle.of_replay.specs.Rows.{rows_of_lines}
-use Rattle.of_replay.specs.Play.{lines_read, PrintsLines}
-use Rattle.of_replay.specs.RowTexts.{RowText, told}
-use Rattle.of_replay.specs.Stepping.{PlayedAll, ReadsFail, WritesFail, ended_so}
-use Rattle.of_replay.specs.WholeFiles.{Faults}
-use Rattle.of_replay.specs.FileRuns.{FileOutcome, IsValue, IsBad, HasFault, ReadsWhole, event_file}
-use Rattle.of_replay.proofs.WholeRuns.{is_ended}
+use Rattle.of_replay.specs.{Told.Known, Told.given, Rows.rows_of_lines, Play.lines_read, Play.PrintsLines, RowTexts.RowText, RowTexts.told}
+use Rattle.of_replay.{specs.Stepping.PlayedAll, specs.Stepping.ReadsFail, specs.Stepping.WritesFail, specs.Stepping.ended_so, specs.WholeFiles.Faults, proofs.WholeRuns.is_ended}
 use Rattle.of_replay.proofs.FileLemmas.{by_read}
 
 pub played_all : (begun : State) (answers answers' : Known) (ends ends' : ℕ) (s : State) → begun ≡ start 1 → PlayedAll begun answers answers' s → ends' ≡ ends + 1 → ReadsWhole event_file (Ok s) answers answers' ends ends'

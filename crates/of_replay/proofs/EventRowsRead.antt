@@ -1,20 +1,14 @@
 -- The rows of a file of chunks.
 use Rattle.std.proofs.Common.{◌≡◌, ℕ, ◌+◌, ◌<◌, ◌≤◌, ◌/◌, ◌%◌, suc, zero, eqb, Bool, true, false, not, List, [], ◌∷◌, ◌++◌, length, codes, Option, Some, None, refl, sym, ◌∙◌, ap, subst, append_assoc, arith}
-use Rattle.std.specs.Prelude.{nat_le, nat_lt, position, slice_index}
-use Rattle.std.specs.List.{AllByRecursion, list_all}
-use Rattle.std.specs.Option.{option_map}
-use Rattle.std.specs.Str.{IsAscii, bytes_eq, chars, is_utf8}
-use lib.Utf8.{encode}
 use Rattle.std.proofs.lemmas.Bool.{and_from, and_parts, le-leb, ltb-true, ne_eqb, and_right}
-use Rattle.std.proofs.lemmas.List.{append-nil}
-use Rattle.std.proofs.lemmas.Str.{IsUtf8-from_ascii, is_utf8-from_IsUtf8}
-use Rattle.std.proofs.lemmas.Str.Ascii.{IsAscii-cons}
+use Rattle.std.specs.{Prelude.nat_le, Prelude.nat_lt, Prelude.position, Prelude.slice_index, List.AllByRecursion, List.list_all, Option.option_map, Str.IsAscii, Str.bytes_eq, Str.chars, Str.is_utf8}
+use Rattle.std.proofs.{lemmas.List.append-nil, lemmas.Str.IsUtf8-from_ascii, lemmas.Str.is_utf8-from_IsUtf8, lemmas.Str.Ascii.IsAscii-cons}
+use lib.Utf8.{encode}
 use Rattle.hex.specs.Hex.{IsBytes, encode_lower, encode_with, lower_digits}
 use Rattle.hex.proofs.HexLemmas.{IsAscii-encode_with, decode_of-encode_lower, length-encode_with}
 use Rattle.of_table.proofs.PlaceLemmas.{position-first, position-later}
 use Rattle.of_build.specs.Building.{chunk_line}
-use Rattle.of_switch.specs.declared.event.Event.{Event}
-use Rattle.of_switch.specs.declared.event.Event.TheVariants.{Chunk, Connect}
+use Rattle.of_switch.specs.{declared.event.Event.Event, declared.event.Event.TheVariants.Chunk, declared.event.Event.TheVariants.Connect}
 use Rattle.of_replay.specs.Lexing.{whole_from, last_from, lines_of_file, is_line, hex_bytes}
 use Rattle.of_replay.specs.Rows.{events_in, row_of_line, rows_of_lines}
 

@@ -1,26 +1,20 @@
 -- Rows that are written are read again.
 use Rattle.std.proofs.Common.{◌≡◌, ℕ, ◌+◌, ◌-◌, ◌*◌, ◌/◌, ◌%◌, ◌^◌, ◌<◌, ◌≤◌, zero, suc, Bool, true, false, eqb, leb, ltb, cond, List, [], ◌∷◌, ◌++◌, length, drop, get_or, codes, Option, Some, None, refl, sym, ap, subst, ◌∙◌, arith, append_assoc}
 use Rattle.std.specs.Prelude.{decimal, position, replicate, slice_index, ◌&&◌}
-use Rattle.std.specs.List.{AllByRecursion, flat_map, list_all}
-use Rattle.std.specs.Option.{option_map}
-use Rattle.std.specs.Result.{result_ok}
-use Rattle.std.specs.Str.{IsAscii, chars, is_utf8}
-use lib.Utf8.{encode}
 use Rattle.std.proofs.lemmas.Bool.{and_from, and_parts, le-leb, lt-ltb, ltb-false, ltb-true, ne_eqb}
-use Rattle.std.proofs.lemmas.Bool.Decides.{nat_tests}
-use Rattle.std.proofs.lemmas.Fmt.{decimal_by_steps, decimal_digit, decimal_nonempty, first_decimal}
-use Rattle.std.proofs.lemmas.List.{append-nil, drop_at, length-append, take_at}
-use Rattle.std.proofs.lemmas.Str.{IsUtf8-from_ascii, is_utf8-from_IsUtf8}
+use Rattle.std.specs.{List.AllByRecursion, List.flat_map, List.list_all, Option.option_map, Result.result_ok, Str.IsAscii, Str.chars, Str.is_utf8}
+use Rattle.std.proofs.{lemmas.Bool.Decides.nat_tests, lemmas.Fmt.decimal_by_steps, lemmas.Fmt.decimal_digit, lemmas.Fmt.decimal_nonempty, lemmas.Fmt.first_decimal}
+use Rattle.std.proofs.{lemmas.List.append-nil, lemmas.List.drop_at, lemmas.List.length-append, lemmas.List.take_at, lemmas.Str.IsUtf8-from_ascii, lemmas.Str.is_utf8-from_IsUtf8}
 use Rattle.std.proofs.lemmas.Str.Ascii.{IsAscii-cons, IsAscii-nil}
-use Rattle.hex.specs.Hex.{IsBytes, encode_lower, encode_with, lower_digits}
-use Rattle.hex.proofs.HexLemmas.{decode_sized-encode_lower}
+use lib.Utf8.{encode}
+use Rattle.hex.{specs.Hex.IsBytes, specs.Hex.encode_lower, specs.Hex.encode_with, specs.Hex.lower_digits, proofs.HexLemmas.decode_sized-encode_lower}
 use Rattle.of_table.proofs.PlaceLemmas.{position-first, position-later}
+use Rattle.of_switch.specs.declared.event.Event.TheVariants.{Connect, Lost, Chunk, Frame, Moment, Ports}
 use Rattle.of_switch.specs.declared.port_change.PortChange.{PortChange}
 use Rattle.of_switch.specs.declared.port_change.PortChange.TheVariants.{Add, Remove, Link}
+use Rattle.of_switch.specs.declared.event.Event.{Event}
 use Rattle.of_text.specs.Lines.{before, further, is_passed, joined}
 use Rattle.of_replay.specs.Lexing.{after_first_word, below_limit, hex_bytes, decimal as decimal_in, value_of_decimal, first_word, hw_of, is_digit, is_line, is_name_byte, moment_of, name_in_word, word_number, state_of}
-use Rattle.of_switch.specs.declared.event.Event.TheVariants.{Connect, Lost, Chunk, Frame, Moment, Ports}
-use Rattle.of_switch.specs.declared.event.Event.{Event}
 use Rattle.of_replay.specs.Rows.{added_port, change_of, events_in, frame_row, linked_port, named_row, chunk_row, port_of, removed_port, row_of_line}
 use Rattle.of_replay.specs.WrittenRows.{HasChangeText, HasLine, HasText, IsName, bytes_word, change_words, file_text, name_word, row_text, row_words, state_word}
 use Rattle.of_replay.proofs.EventRowsRead.{IsOne, Means, bytes_again, connect_is, means_end, means_row}

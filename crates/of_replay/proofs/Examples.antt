@@ -1,15 +1,10 @@
 -- What short files of events print, computed from the definitions.
 use Rattle.std.proofs.Common.{◌≡◌, ℕ, List, ◌++◌, ◌∷◌, [], codes, None, refl}
-use Rattle.std.specs.Fmt.{digits}
-use Rattle.std.specs.List.{flat_map}
-use Rattle.std.specs.Str.{is_utf8, chars}
+use Rattle.std.specs.{Fmt.digits, List.flat_map, Str.is_utf8, Str.chars}
 use lib.Utf8.{encode}
 use Rattle.hex.specs.Hex.{decode_pairs, encode_with}
-use Rattle.of_switch.specs.State.{start}
-use Rattle.of_switch.proofs.OnLiterals.{switch_on_literals}
-use Rattle.of_replay.specs.Lexing.{lines_of_file}
-use Rattle.of_replay.specs.Rows.{rows_of_lines}
-use Rattle.of_replay.specs.Output.{printed_from}
+use Rattle.of_switch.{specs.State.start, proofs.OnLiterals.switch_on_literals}
+use Rattle.of_replay.specs.{Lexing.lines_of_file, Rows.rows_of_lines, Output.printed_from}
 
 -- a text of these lines, each ended by LF
 abbrev pub text_of : List (List ℕ) → List ℕ

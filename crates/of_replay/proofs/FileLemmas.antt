@@ -1,20 +1,15 @@
 -- A file that is read whole, and how a run over it ends.
 use Rattle.std.proofs.Common.{◌≡◌, ℕ, ◌+◌, ◌<◌, ◌≤◌, true, false, List, [], ◌∷◌, ◌++◌, length, Option, Some, None, Result, Ok, Err, refl, sym, ◌∙◌, ap, arith, inl, inr}
 use Rattle.std.specs.Prelude.{◌⊎◌, ◌↔◌}
-use Rattle.of_replay.specs.declared.halt.Halt.{Halt}
-use Rattle.of_replay.specs.declared.halt.Halt.TheVariants.{Bad, Memory, Read, Write}
-use Rattle.of_replay.specs.declared.event_file.Ended.{Ended}
 use Rattle.of_replay.specs.declared.event_file.Ended.TheVariants.{Done, BadRow, Text, NoMemory, ReadFault, WriteFault}
 use Rattle.of_replay.specs.Told.{Answer, Gave, Known, Answers, NoneLeft, answer_bytes, given}
-use Rattle.of_replay.specs.Transfer.{AllAnswers}
-use Rattle.of_replay.specs.Stepping.{ReadsFail, ended_so}
-use Rattle.of_text.specs.Lines.{lines_of, before, behind}
-use Rattle.of_text.proofs.TextLemmas.{first_line}
-use Rattle.of_replay.specs.Lexing.{is_line}
-use Rattle.of_replay.specs.WholeFiles.{unreadable, ReadsFile, Faults}
 use Rattle.of_replay.specs.FileRuns.{Meaning, FileOutcome, IsRead, ReadsWhole, Runs, Writes, ended_as}
-use Rattle.of_replay.proofs.TellingLemmas.{answers-none, told_more, given-more}
-use Rattle.of_replay.proofs.WholeRuns.{given_same, not_ended, is_ended, not_whole}
+use Rattle.of_replay.specs.declared.halt.Halt.{Halt}
+use Rattle.of_replay.specs.declared.halt.Halt.TheVariants.{Bad, Memory, Read, Write}
+use Rattle.of_replay.specs.{declared.event_file.Ended.Ended, Transfer.AllAnswers, Stepping.ReadsFail, Stepping.ended_so, Lexing.is_line}
+use Rattle.of_replay.specs.WholeFiles.{unreadable, ReadsFile, Faults}
+use Rattle.of_replay.proofs.{TellingLemmas.answers-none, TellingLemmas.told_more, TellingLemmas.given-more, WholeRuns.given_same, WholeRuns.not_ended, WholeRuns.is_ended, WholeRuns.not_whole}
+use Rattle.of_text.{specs.Lines.lines_of, specs.Lines.before, specs.Lines.behind, proofs.TextLemmas.first_line}
 
 -- ---- reading
 

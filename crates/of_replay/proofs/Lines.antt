@@ -1,24 +1,16 @@
 -- A line's part in a run.
 use Rattle.std.proofs.Common.{◌≡◌, ℕ, ◌+◌, ◌≤◌, suc, Bool, true, false, length, take, drop, List, [], ◌∷◌, ◌++◌, Option, Some, None, Ok, Err, refl, sym, ◌∙◌, ap, subst, append_assoc, arith, length-drop, ◌-◌, Result}
 use Rattle.std.proofs.lemmas.List.{append-nil, length-append, take_all, length-take-le, drop-drop}
-use Rattle.std.specs.Prelude.{nat_le, OnOk, IfErr}
-use Rattle.std.specs.Option.{option_map}
-use Rattle.std.proofs.lemmas.Bool.Decides.{nat_tests}
-use Rattle.of_switch.specs.declared.event.Event.{Event}
-use Rattle.of_switch.specs.State.{State}
-use Rattle.of_switch.specs.Runs.{happened, run}
-use Rattle.of_replay.specs.declared.halt.Halt.{Halt}
-use Rattle.of_replay.specs.declared.halt.Halt.TheVariants.{Bad, Memory, Read, Write}
-use Rattle.std.specs.Io.KnownBytes.{Appends}
-use Rattle.of_replay.specs.Transfer.{WrotePrefix}
-use Rattle.of_replay.specs.Lexing.{whole_from, whole_lines, last_from}
+use Rattle.std.{specs.Prelude.nat_le, specs.Prelude.OnOk, specs.Prelude.IfErr, specs.Option.option_map, specs.Io.KnownBytes.Appends, proofs.lemmas.Bool.Decides.nat_tests}
+use Rattle.of_switch.specs.{declared.event.Event.Event, State.State, Runs.happened, Runs.run}
 use Rattle.of_replay.specs.Rows.{Rows, row_of_line, row_and, rows_of_lines, events_in}
-use Rattle.of_replay.specs.Output.{report_text, printed_from}
-use Rattle.of_replay.specs.Play.{lines_read}
 use Rattle.of_replay.specs.RowTexts.{RowText, plain_row_text, row_happened, told, told_and, told_from}
 use Rattle.of_replay.specs.Stepping.{LineTells, LineGoes, Prints, PrintsFirst, Going, Within, WithinChunk, Halts, ChunkGoes}
-use Rattle.of_replay.proofs.TellingLemmas.{appends-none, appends-then}
 use Rattle.of_replay.proofs.Cutting.{kept_more, Parts, parts, first_end, whole_join, last_join}
+use Rattle.of_replay.specs.declared.halt.Halt.{Halt}
+use Rattle.of_replay.specs.declared.halt.Halt.TheVariants.{Bad, Memory, Read, Write}
+use Rattle.of_replay.specs.{Transfer.WrotePrefix, Lexing.whole_from, Lexing.whole_lines, Lexing.last_from, Output.report_text, Output.printed_from, Play.lines_read}
+use Rattle.of_replay.proofs.TellingLemmas.{appends-none, appends-then}
 
 -- A LINE
 

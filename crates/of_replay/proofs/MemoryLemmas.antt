@@ -1,10 +1,7 @@
 -- The chunks that a source in memory gave, one after another.
 use Rattle.std.proofs.Common.{◌≡◌, ℕ, zero, suc, ◌+◌, ◌-◌, List, [], ◌∷◌, ◌++◌, take, drop, length, replicate, refl, sym, ◌∙◌, ap, arith}
-use Rattle.std.proofs.Math.Seq.{take-add, take-append_seam}
-use Rattle.std.proofs.lemmas.List.{append-nil, drop-drop}
-use Rattle.std.proofs.lemmas.List.Sums.{sum_by-cons}
+use Rattle.std.{specs.List.sum, proofs.Math.Seq.take-add, proofs.Math.Seq.take-append_seam, proofs.lemmas.List.append-nil, proofs.lemmas.List.drop-drop, proofs.lemmas.List.Sums.sum_by-cons}
 use Rattle.std.proofs.lemmas.Grind.{flat_map-append}
-use Rattle.std.specs.List.{sum}
 use Rattle.of_replay.specs.Told.{Answer, Gave, Ended, Failed, answer_bytes, given}
 use Rattle.of_replay.specs.Memory.{chunks_of}
 

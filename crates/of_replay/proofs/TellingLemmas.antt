@@ -1,7 +1,6 @@
 -- What is known of bytes and answers, one part after another.
 use Rattle.std.proofs.Common.{◌≡◌, ℕ, List, [], ◌∷◌, ◌++◌, Option, Some, None, refl, sym, ◌∙◌, ap, subst, append_assoc}
-use Rattle.std.proofs.lemmas.List.{append-nil}
-use Rattle.std.specs.Io.KnownBytes.{Appends, Consumes}
+use Rattle.std.{specs.Io.KnownBytes.Appends, specs.Io.KnownBytes.Consumes, proofs.lemmas.List.append-nil}
 use Rattle.of_replay.specs.Told.{Answer, Gave, Known, Told, Left, Answers, answer_bytes, given}
 use Rattle.of_replay.specs.Transfer.{AllAnswers}
 

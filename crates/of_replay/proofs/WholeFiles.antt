@@ -1,16 +1,10 @@
 -- A reader's bytes that were all read, and what was written of them.
 use Rattle.std.proofs.Common.{◌≡◌, ℕ, Bool, true, List, ◌++◌, Option, Some, None, Result, Ok, Err, sym, ◌∙◌, ap, subst, arith, ◌<◌}
-use Rattle.std.proofs.lemmas.List.{append-nil}
-use Rattle.std.specs.Prelude.{nat_lt}
-use Rattle.std.proofs.lemmas.Bool.Decides.{nat_tests}
-use Rattle.std.specs.Io.KnownBytes.{Appends}
-use Rattle.of_replay.specs.declared.event_file.Ended.{Ended}
+use Rattle.std.{specs.Prelude.nat_lt, specs.Io.KnownBytes.Appends, proofs.lemmas.List.append-nil, proofs.lemmas.Bool.Decides.nat_tests}
 use Rattle.of_replay.specs.declared.event_file.Ended.TheVariants.{Done, BadRow, Text, NoMemory, ReadFault, WriteFault}
 use Rattle.of_replay.specs.Told.{Answer, Known, Told, Left, NoneLeft, given}
-use Rattle.of_replay.specs.Transfer.{AllAnswers}
-use Rattle.of_replay.specs.Lexing.{lines_of_file}
-use Rattle.of_replay.specs.Play.{lines_read, PrintsLines}
 use Rattle.of_replay.specs.FileRuns.{Meaning, IsValue, ReadsWhole, Runs, WritesOf, TextOf}
+use Rattle.of_replay.specs.{declared.event_file.Ended.Ended, Transfer.AllAnswers, Lexing.lines_of_file, Play.lines_read, Play.PrintsLines}
 
 -- all that was left was given
 all_given : (file : List ℕ) (known : Known) (more : List Answer) → AllAnswers (Left (Some file)) known more → NoneLeft known → given more ≡ file

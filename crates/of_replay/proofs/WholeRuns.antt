@@ -1,25 +1,18 @@
 -- A whole run, from what was read to what was written.
 use Rattle.std.proofs.Common.{◌≡◌, ℕ, ◌+◌, Bool, true, false, List, [], ◌∷◌, ◌++◌, Option, None, Result, Ok, Err, refl, sym, ◌∙◌, ap, subst, arith, inl, inr, ◌<◌, ◌≤◌, take, length}
-use Rattle.std.proofs.lemmas.List.{append-nil, length-take-le}
 use Rattle.std.specs.Prelude.{nat_lt, ◌⊎◌, ◌↔◌, OnOk, OnErr, IfErr}
-use Rattle.std.proofs.lemmas.Bool.Decides.{nat_tests}
+use Rattle.std.{specs.Io.KnownBytes.Appends, proofs.lemmas.List.append-nil, proofs.lemmas.List.length-take-le, proofs.lemmas.Bool.Decides.nat_tests}
 use Rattle.of_switch.specs.State.{State}
-use Rattle.of_replay.specs.Lexing.{whole_lines}
-use Rattle.of_replay.specs.declared.halt.Halt.{Halt}
-use Rattle.of_replay.specs.declared.halt.Halt.TheVariants.{Bad, Memory, Read, Write}
-use Rattle.of_replay.specs.declared.event_file.Ended.{Ended}
 use Rattle.of_replay.specs.declared.event_file.Ended.TheVariants.{Done, BadRow, Text, NoMemory, ReadFault, WriteFault}
 use Rattle.of_replay.specs.Told.{Answer, Gave, Known, Answers, NoneLeft, answer_bytes, given}
-use Rattle.std.specs.Io.KnownBytes.{Appends}
-use Rattle.of_replay.specs.Transfer.{AllAnswers, WrotePrefix}
-use Rattle.of_replay.specs.Rows.{row_of_line, rows_of_lines}
 use Rattle.of_replay.specs.Play.{lines_read, but_last, earlier_lines, EndsPrinting, PrintsLines}
-use Rattle.of_replay.specs.Output.{printed_from}
-use Rattle.of_replay.specs.RowTexts.{RowText, plain_row_text, told}
-use Rattle.of_replay.specs.WholeFiles.{RunFaults}
 use Rattle.of_replay.specs.Stepping.{LineGoes, Prints, Within, Halts, ChunkGoes, Plays, PlayedAll, PlaysRead, ReadSoFar, WritesFail, ReadsFail, ended_so}
 use Rattle.of_replay.proofs.Lines.{within_start, within_ends, within_played, within_end_halts, within_open, prints_front, tale_join, plain_is}
 use Rattle.of_replay.proofs.TellingLemmas.{appends-none, appends-then, answers-none, told_more, given-more}
+use Rattle.of_replay.specs.{Lexing.whole_lines, declared.halt.Halt.Halt}
+use Rattle.of_replay.specs.declared.halt.Halt.TheVariants.{Bad, Memory, Read, Write}
+use Rattle.of_replay.specs.{declared.event_file.Ended.Ended, Transfer.AllAnswers, Transfer.WrotePrefix, Rows.row_of_line, Rows.rows_of_lines, Output.printed_from}
+use Rattle.of_replay.specs.{RowTexts.RowText, RowTexts.plain_row_text, RowTexts.told, WholeFiles.RunFaults}
 
 -- READING
 

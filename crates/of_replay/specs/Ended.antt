@@ -1,7 +1,6 @@
 -- How a run ends.
 use Rattle.std.specs.Prelude.{ℕ}
-use Rattle.of_replay.specs.declared.event_file.Ended.{Ended}
-use Rattle.of_replay.specs.declared.event_file.Ended.TheVariants.{Done, BadRow, Text}
+use Rattle.of_replay.specs.{declared.event_file.Ended.Ended, declared.event_file.Ended.TheVariants.Done, declared.event_file.Ended.TheVariants.BadRow, declared.event_file.Ended.TheVariants.Text}
 
 -- the exit statuses
 abbrev pub status_of : Ended → ℕ

@@ -1,22 +1,12 @@
 -- WHAT A FILE IS READ AS, AND HOW A RUN ENDS that reads a file and writes a text of what it read.
 use Rattle.std.specs.Prelude.{◌≡◌, ℕ, Bool, true, false, nat_lt, List, Option, Some, None, Result, Ok, Err}
-use Rattle.of_text.specs.declared.assembling.TextFault.{TextFault}
-use Rattle.of_text.specs.declared.assembling.TextFault.TheVariants as fault
-use Rattle.of_text.specs.Lines.{lines_of}
-use Rattle.of_text.specs.Texts.{IsSyntax}
-use Rattle.of_text.specs.First.{AreRefusedLines}
-use Rattle.of_text.specs.Configs.{Configuration, EncodeConfig, config_text}
-use Rattle.of_switch.specs.State.{State, start}
-use Rattle.of_switch.specs.Runs.{run}
-use Rattle.of_switch.specs.Loading.{config_of}
-use Rattle.of_replay.specs.declared.event_file.Ended.{Ended}
-use Rattle.of_replay.specs.declared.event_file.Ended.TheVariants.{Done, BadRow, Text, ReadFault, WriteFault, NoMemory}
-use Rattle.of_replay.specs.Told.{Answer, Known, NoneLeft, given}
 use Rattle.std.specs.Io.KnownBytes.{Appends}
-use Rattle.of_replay.specs.Transfer.{AllAnswers, WrotePrefix}
-use Rattle.of_replay.specs.Rows.{Rows, rows_of_lines}
-use Rattle.of_replay.specs.Play.{lines_read}
-use Rattle.of_replay.specs.WholeFiles.{bad_line}
+use Rattle.of_text.specs.{declared.assembling.TextFault.TextFault, Lines.lines_of, Texts.IsSyntax, First.AreRefusedLines, Configs.Configuration, Configs.EncodeConfig, Configs.config_text}
+use Rattle.of_text.specs.declared.assembling.TextFault.TheVariants as fault
+use Rattle.of_switch.specs.{State.State, State.start, Runs.run, Loading.config_of}
+use Rattle.of_replay.specs.declared.event_file.Ended.TheVariants.{Done, BadRow, Text, ReadFault, WriteFault, NoMemory}
+use Rattle.of_replay.specs.{declared.event_file.Ended.Ended, Told.Answer, Told.Known, Told.NoneLeft, Told.given, Transfer.AllAnswers, Transfer.WrotePrefix, Rows.Rows, Rows.rows_of_lines}
+use Rattle.of_replay.specs.{Play.lines_read, WholeFiles.bad_line}
 
 -- WHAT A FILE IS READ AS: a value; or there is none, since a line is bad, or since the text has a fault
 pub data FileOutcome (A : Type 0) : Type 0 where

@@ -1,8 +1,6 @@
 -- Lines of event files: their words, numbers and bytes.
 use Rattle.std.specs.Prelude.{ℕ, ◌+◌, ◌-◌, ◌*◌, ◌^◌, ◌==◌, ◌&&◌, ◌||◌, nat_le, nat_lt, Bool, true, false, List, [], ◌∷◌, ◌++◌, length, take, drop, replicate, position, codes, Option, Some, None, if◌then◌else◌}
-use Rattle.std.specs.List.{list_all}
-use Rattle.std.specs.Result.{result_ok}
-use Rattle.std.specs.Str.{bytes_eq, is_utf8}
+use Rattle.std.specs.{List.list_all, Result.result_ok, Str.bytes_eq, Str.is_utf8}
 use Rattle.hex.specs.Hex.{decode_of, decode_sized}
 
 -- LINES

@@ -1,12 +1,7 @@
 -- A SWITCH WITH A CONFIGURATION: a new one, to which ports were added whose links are up, and then the groups and flows (OpenFlow 1.3.5, 7.2.1).
 use Rattle.std.specs.Prelude.{ℕ, ◌/◌, ◌%◌, ◌^◌, true, List, [], ◌∷◌, map, replicate}
 use Rattle.of_text.specs.Configs.{Configuration}
-use Rattle.of_switch.specs.declared.event.Event.{Event}
-use Rattle.of_switch.specs.declared.event.Event.TheVariants.{Ports}
-use Rattle.of_switch.specs.declared.port_change.PortChange.TheVariants.{Add}
-use Rattle.of_switch.specs.State.{State, start}
-use Rattle.of_switch.specs.Runs.{run}
-use Rattle.of_switch.specs.Loading.{loaded}
+use Rattle.of_switch.specs.{declared.event.Event.Event, declared.event.Event.TheVariants.Ports, declared.port_change.PortChange.TheVariants.Add, State.State, State.start, Runs.run, Loading.loaded}
 
 abbrev pub byte_of : ℕ → ℕ → ℕ
 byte_of place n = n / 2 ^ place % 2 ^ 8

@@ -1,12 +1,9 @@
 -- What a source and a sink in memory answer, and what the source answered.
 use Rattle.std.specs.Prelude.{◌≡◌, ℕ, ◌+◌, ◌-◌, ◌<◌, ◌≤◌, ◌⊎◌, min, List, [], ◌∷◌, ◌++◌, take, drop, length, replicate, vec_len, vec_capacity}
-use Rattle.of_replay.specs.declared.io.Reading.{Reading}
-use Rattle.of_replay.specs.declared.io.Reading.TheVariants as reading
-use Rattle.of_replay.specs.declared.io.Writing.{Writing}
-use Rattle.of_replay.specs.declared.io.Writing.TheVariants as writing
-use Rattle.of_replay.specs.declared.memory.MemorySource.{MemorySource}
-use Rattle.of_replay.specs.declared.memory.MemorySink.{MemorySink}
+use Rattle.of_replay.specs.{declared.io.Reading.Reading, declared.io.Writing.Writing, declared.memory.MemorySource.MemorySource, declared.memory.MemorySink.MemorySink}
 use Rattle.of_replay.specs.Told.{Answer, Gave, Ended, Failed}
+use Rattle.of_replay.specs.declared.io.Reading.TheVariants as reading
+use Rattle.of_replay.specs.declared.io.Writing.TheVariants as writing
 
 -- bytes in chunks of these lengths
 abbrev pub chunks_of : List ℕ → List ℕ → List Answer

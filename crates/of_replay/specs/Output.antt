@@ -2,13 +2,8 @@
 use Rattle.std.specs.Prelude.{ℕ, List, [], ◌∷◌, ◌++◌, codes, decimal}
 use Rattle.std.specs.List.{flat_map}
 use Rattle.hex.specs.Hex.{encode_lower}
-use Rattle.of_datapath.specs.declared.effect.Effect.{Effect}
-use Rattle.of_datapath.specs.declared.effect.Effect.TheVariants.{Answer, Sent, Closed}
-use Rattle.of_switch.specs.declared.switch_error.SwitchError.{SwitchError}
-use Rattle.of_switch.specs.Calls.{error_number}
-use Rattle.of_switch.specs.declared.event.Event.{Event}
-use Rattle.of_switch.specs.State.{State}
-use Rattle.of_switch.specs.Runs.{Report, Gives, IsRefused, run}
+use Rattle.of_datapath.specs.{declared.effect.Effect.Effect, declared.effect.Effect.TheVariants.Answer, declared.effect.Effect.TheVariants.Sent, declared.effect.Effect.TheVariants.Closed}
+use Rattle.of_switch.specs.{declared.switch_error.SwitchError.SwitchError, Calls.error_number, declared.event.Event.Event, State.State, Runs.Report, Runs.Gives, Runs.IsRefused, Runs.run}
 
 -- `a HEX`, `s PORT HEX` or `closed`
 abbrev pub line_of : Effect → List ℕ

@@ -1,6 +1,5 @@
 -- Calls of files and sockets that found nothing this time.
-use Rattle.std.specs.Prelude.{Bool, true, false}
-use Rattle.std.specs.declared.io.ErrorKind.{ErrorKind}
+use Rattle.std.specs.{Prelude.Bool, Prelude.true, Prelude.false, declared.io.ErrorKind.ErrorKind}
 use Rattle.std.specs.declared.io.ErrorKind.TheVariants as kind
 
 -- there is nothing this time, which is no fault: the call was interrupted, or would have waited for longer

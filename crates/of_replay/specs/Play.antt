@@ -1,11 +1,8 @@
 -- HOW A RUN ENDS that writes a text of lines as it reads them.
 use Rattle.std.specs.Prelude.{◌≡◌, ℕ, Bool, true, false, nat_lt, List, [], ◌∷◌, ◌++◌, Option, Some, None, if◌then◌else◌}
-use Rattle.of_replay.specs.declared.event_file.Ended.{Ended}
-use Rattle.of_replay.specs.declared.event_file.Ended.TheVariants.{Done, BadRow, Text, ReadFault, WriteFault, NoMemory}
-use Rattle.of_replay.specs.Told.{Answer, Known, NoneLeft, given}
 use Rattle.std.specs.Io.KnownBytes.{Appends}
-use Rattle.of_replay.specs.Transfer.{AllAnswers, WrotePrefix}
-use Rattle.of_replay.specs.Lexing.{whole_lines, last_from}
+use Rattle.of_replay.specs.declared.event_file.Ended.TheVariants.{Done, BadRow, Text, ReadFault, WriteFault, NoMemory}
+use Rattle.of_replay.specs.{declared.event_file.Ended.Ended, Told.Answer, Told.Known, Told.NoneLeft, Told.given, Transfer.AllAnswers, Transfer.WrotePrefix, Lexing.whole_lines, Lexing.last_from}
 use Rattle.of_replay.specs.Rows.{rows_of_lines}
 
 -- the line that no LF ends yet: it is a line where the file ends

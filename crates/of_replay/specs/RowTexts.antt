@@ -1,10 +1,7 @@
 -- WHAT IS PRINTED FOR A FILE, line by line: for each row a text, which the row, its line, the number of the line and the switch before it decide.
 use Rattle.std.specs.Prelude.{ℕ, ◌+◌, List, [], ◌∷◌, ◌++◌, Option, Some, None}
-use Rattle.of_switch.specs.declared.event.Event.{Event}
-use Rattle.of_switch.specs.State.{State}
-use Rattle.of_switch.specs.Runs.{Happened, Gives, happened}
-use Rattle.of_replay.specs.Rows.{row_of_line}
-use Rattle.of_replay.specs.Output.{report_text}
+use Rattle.of_switch.specs.{declared.event.Event.Event, State.State, Runs.Happened, Runs.Gives, Runs.happened}
+use Rattle.of_replay.specs.{Rows.row_of_line, Output.report_text}
 
 -- what happens at a row; an empty line and a comment report nothing
 abbrev pub row_happened : State → Option Event → Happened

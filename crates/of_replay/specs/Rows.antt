@@ -8,17 +8,14 @@
 --   port remove N
 --   port link N up|down
 use Rattle.std.specs.Prelude.{ℕ, ◌+◌, not, List, [], ◌∷◌, ◌++◌, codes, Option, Some, None, if◌then◌else◌}
-use Rattle.std.specs.Option.{option_map}
-use Rattle.std.specs.Str.{bytes_eq}
-use Rattle.of_switch.specs.declared.event.Event.{Event}
+use Rattle.std.specs.{Option.option_map, Str.bytes_eq}
 use Rattle.of_switch.specs.declared.event.Event.TheVariants.{Connect, Lost, Chunk, Frame, Moment, Ports}
-use Rattle.of_switch.specs.declared.port_change.PortChange.{PortChange}
+use Rattle.of_switch.specs.{declared.event.Event.Event, declared.port_change.PortChange.PortChange}
 use Rattle.of_switch.specs.declared.port_change.PortChange.TheVariants.{Add, Remove, Link}
+use Rattle.of_replay.specs.Lexing.{is_line, first_word, after_first_word, word_number, moment_of, hex_bytes, hw_of, name_in_word, state_of}
 use Rattle.of_replay.specs.declared.rows.Row.{Row}
 use Rattle.of_replay.specs.declared.rows.Row.TheVariants as row
-use Rattle.of_text.specs.Lines.{is_passed}
-use Rattle.of_text.specs.Reading.{◌>>=◌}
-use Rattle.of_replay.specs.Lexing.{is_line, first_word, after_first_word, word_number, moment_of, hex_bytes, hw_of, name_in_word, state_of}
+use Rattle.of_text.specs.{Lines.is_passed, Reading.◌>>=◌}
 
 abbrev pub chunk_row : List ℕ → Option Event
 chunk_row word = do

@@ -1,25 +1,17 @@
 -- Steps of a run, for contracts inside this crate.
 use Rattle.std.specs.Prelude.{◌≡◌, ◌≢◌, ◌⊎◌, ℕ, ◌+◌, ◌<◌, ◌≤◌, nat_lt, Bool, true, false, List, [], ◌++◌, length, take, Option, Some, None, Result, Ok, Err}
+use Rattle.std.specs.Io.KnownBytes.{Appends}
 use Rattle.smallvec.specs.SmallVec.{SmallVec}
 use Rattle.of_datapath.specs.declared.effect.Effect.{Effect}
-use Rattle.of_switch.specs.declared.switch_error.SwitchError.{SwitchError}
-use Rattle.of_switch.specs.declared.switch_error.SwitchError.TheVariants as error
-use Rattle.of_switch.specs.declared.event.Event.{Event}
-use Rattle.of_switch.specs.State.{State}
 use Rattle.of_switch.specs.Runs.{Happened, Report, Gives, IsRefused, run}
-use Rattle.of_replay.specs.declared.halt.Halt.{Halt}
-use Rattle.of_replay.specs.declared.halt.Halt.TheVariants as halt
-use Rattle.of_replay.specs.declared.event_file.Ended.{Ended}
+use Rattle.of_switch.specs.{declared.switch_error.SwitchError.SwitchError, declared.event.Event.Event, State.State}
+use Rattle.of_switch.specs.declared.switch_error.SwitchError.TheVariants as error
 use Rattle.of_replay.specs.declared.event_file.Ended.TheVariants.{Done, BadRow, ReadFault, WriteFault, NoMemory}
-use Rattle.of_replay.specs.Told.{Answer, Known, NoneLeft, given}
-use Rattle.std.specs.Io.KnownBytes.{Appends}
-use Rattle.of_replay.specs.Transfer.{AllAnswers, WrotePrefix}
-use Rattle.of_replay.specs.Lexing.{whole_lines, whole_from, last_from}
-use Rattle.of_replay.specs.Rows.{rows_of_lines}
-use Rattle.of_replay.specs.Output.{text_of, refused_line}
-use Rattle.of_replay.specs.Play.{lines_read, earlier_lines}
-pub use Rattle.of_replay.specs.RowTexts.{row_happened}
+use Rattle.of_replay.specs.{declared.halt.Halt.Halt, declared.event_file.Ended.Ended, Told.Answer, Told.Known, Told.NoneLeft, Told.given, Transfer.AllAnswers, Transfer.WrotePrefix}
+use Rattle.of_replay.specs.{Lexing.whole_lines, Lexing.whole_from, Lexing.last_from, Rows.rows_of_lines, Output.text_of, Output.refused_line, Play.lines_read, Play.earlier_lines}
 use Rattle.of_replay.specs.RowTexts.{RowText, told}
+use Rattle.of_replay.specs.declared.halt.Halt.TheVariants as halt
+pub use Rattle.of_replay.specs.RowTexts.{row_happened}
 
 -- A ROW
 

@@ -1,10 +1,8 @@
 -- What is known of what a source answered and of what a sink took.
 use Rattle.std.specs.Prelude.{◌≡◌, ℕ, ◌<◌, ◌≤◌, ◌++◌, List, [], ◌∷◌, take, Option}
-use Rattle.std.specs.List.{flat_map}
-use Rattle.std.specs.Io.KnownBytes.{Consumes, IsAtEnd}
-use Rattle.of_replay.specs.declared.io.Reading.{Reading}
+use Rattle.std.specs.{List.flat_map, Io.KnownBytes.Consumes, Io.KnownBytes.IsAtEnd}
+use Rattle.of_replay.specs.{declared.io.Reading.Reading, declared.io.Writing.Writing}
 use Rattle.of_replay.specs.declared.io.Reading.TheVariants as reading
-use Rattle.of_replay.specs.declared.io.Writing.{Writing}
 use Rattle.of_replay.specs.declared.io.Writing.TheVariants as writing
 
 -- what one read answered

@@ -1,13 +1,10 @@
 -- How a file is read whole, and which of its lines no file may have.
 use Rattle.std.specs.Prelude.{◌≡◌, ◌⊎◌, ◌↔◌, ◌<◌, ◌≤◌, ℕ, ◌+◌, Bool, true, false, nat_lt, List, [], ◌∷◌, Option, Some, None, Result, Ok, Err, if◌then◌else◌}
 use Rattle.of_replay.specs.declared.event_file.Ended.{Ended}
-use Rattle.of_replay.specs.declared.event_file.Ended.TheVariants.{Done, ReadFault, WriteFault}
-use Rattle.of_replay.specs.declared.halt.Halt.{Halt}
+use Rattle.of_replay.specs.{declared.event_file.Ended.TheVariants.Done, declared.event_file.Ended.TheVariants.ReadFault, declared.event_file.Ended.TheVariants.WriteFault, declared.halt.Halt.Halt}
+use Rattle.of_replay.specs.{Told.Answer, Told.Known, Told.NoneLeft, Told.given, Transfer.AllAnswers, Lexing.is_line}
 use Rattle.of_replay.specs.declared.halt.Halt.TheVariants as halt
 use Rattle.of_text.specs.Lines.{lines_of}
-use Rattle.of_replay.specs.Told.{Answer, Known, NoneLeft, given}
-use Rattle.of_replay.specs.Transfer.{AllAnswers}
-use Rattle.of_replay.specs.Lexing.{is_line}
 
 -- READING
 

@@ -1,7 +1,6 @@
 //! Flow text from a source, as a configuration.
 ghost use Rattle.std.specs.Prelude.{◌≡◌, ◌≤◌, true};
-ghost use Rattle.of_replay.specs.FileRuns.{IsRead, ReadsWhole, ended_as, flow_text};
-ghost use Rattle.of_replay.specs.WholeFiles.{Faults};
+ghost use Rattle.of_replay.specs.{FileRuns.IsRead, FileRuns.ReadsWhole, FileRuns.ended_as, FileRuns.flow_text, WholeFiles.Faults};
 
 use crate::event_file::{Ended, READ_SIZE, ended_by, zeros};
 use crate::io::Source;

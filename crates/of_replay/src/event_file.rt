@@ -1,13 +1,7 @@
 //! Event files from a source, played on a new switch, and what it gives to a sink.
 ghost use Rattle.std.specs.Prelude.{◌≡◌, IfOk, replicate};
 ghost use Rattle.of_switch.specs.State.{start};
-ghost use Rattle.of_replay.specs.Output.{printed_from};
-ghost use Rattle.of_replay.specs.Play.{PrintsLines, WrittenEarly};
-ghost use Rattle.of_replay.specs.RowTexts.{told};
-ghost use Rattle.of_replay.specs.Rows.{rows_of_lines};
-ghost use Rattle.of_replay.specs.Ended.{status_of};
-ghost use Rattle.of_replay.specs.Stepping.{ended_so};
-ghost use Rattle.of_replay.specs.WholeFiles.{RunFaults};
+ghost use Rattle.of_replay.specs.{Output.printed_from, Play.PrintsLines, Play.WrittenEarly, RowTexts.told, Rows.rows_of_lines, Ended.status_of, Stepping.ended_so, WholeFiles.RunFaults};
 
 use crate::halt::Halt;
 use crate::io::{Sink, Source};

@@ -1,8 +1,7 @@
 //! Flow text from a source, as event files to a sink.
 ghost use Rattle.std.specs.Prelude.{◌≡◌, ◌≤◌, ◌<◌, ◌↔◌};
 ghost use Rattle.of_build.specs.Building.{build_text};
-ghost use Rattle.of_replay.specs.FileRuns.{Runs, Writes, flow_text, is_text};
-ghost use Rattle.of_replay.specs.WholeFiles.{Faults};
+ghost use Rattle.of_replay.specs.{FileRuns.Runs, FileRuns.Writes, FileRuns.flow_text, FileRuns.is_text, WholeFiles.Faults};
 
 use crate::config_file::read_config;
 use crate::event_file::Ended;

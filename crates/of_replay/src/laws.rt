@@ -1,22 +1,12 @@
 //! Laws of rows and of whole files.
 ghost use Rattle.std.specs.Prelude.{◌≡◌, ◌<◌, ◌++◌, ◌∷◌, ℕ, List, [], None, Option, Some, codes};
-ghost use Rattle.std.specs.List.{AllByRecursion, flat_map};
-ghost use Rattle.std.specs.Io.KnownBytes.{Appends};
+ghost use Rattle.std.specs.{List.AllByRecursion, List.flat_map, Io.KnownBytes.Appends};
 ghost use Rattle.of_build.specs.Building.{build_text};
-ghost use Rattle.of_switch.specs.State.{State};
-ghost use Rattle.of_switch.specs.Runs.{IsRefused};
-ghost use Rattle.of_switch.specs.declared.switch_error.SwitchError.TheVariants.{BadPortNumber};
-ghost use Rattle.of_switch.specs.declared.port_change.PortChange.TheVariants.{Remove};
-ghost use Rattle.of_switch.specs.declared.event.Event.{Event};
-ghost use Rattle.of_switch.specs.declared.event.Event.TheVariants.{Ports};
-ghost use Rattle.of_replay.specs.Told.{Known, Left};
-ghost use Rattle.of_replay.specs.Lexing.{lines_of_file};
-ghost use Rattle.of_replay.specs.Play.{PrintsLines};
+ghost use Rattle.of_switch.specs.{State.State, Runs.IsRefused, declared.switch_error.SwitchError.TheVariants.BadPortNumber, declared.port_change.PortChange.TheVariants.Remove};
+ghost use Rattle.of_switch.specs.{declared.event.Event.Event, declared.event.Event.TheVariants.Ports};
 ghost use Rattle.of_replay.specs.FileRuns.{Runs, TextOf, event_file, flow_text, is_text, switch_text};
-ghost use Rattle.of_replay.specs.declared.event_file.Ended.TheVariants.{Done};
-ghost use Rattle.of_replay.specs.Rows.{events_in, row_of_line, rows_of_lines};
-ghost use Rattle.of_replay.specs.WrittenRows.{HasLine, file_text, row_text};
-ghost use Rattle.of_replay.specs.RowTexts.{plain_row_text, row_happened};
+ghost use Rattle.of_replay.specs.{Told.Known, Told.Left, Lexing.lines_of_file, Play.PrintsLines, declared.event_file.Ended.TheVariants.Done, Rows.events_in, Rows.row_of_line, Rows.rows_of_lines};
+ghost use Rattle.of_replay.specs.{WrittenRows.HasLine, WrittenRows.file_text, WrittenRows.row_text, RowTexts.plain_row_text, RowTexts.row_happened};
 
 /// `port remove 0` changes nothing and always prints `refused 8`: where rows are sent one by one, it marks the end of what the rows
 /// before it print.

@@ -1,10 +1,7 @@
 //! Words, numbers and bytes of event files.
 ghost use Rattle.std.specs.Prelude.{◌≡◌, ◌==◌, ◌&&◌, ◌<◌, ◌≤◌, ◌^◌, ◌+◌, ◌*◌, ◌++◌, ◌-◌, if◌then◌else◌, length, replicate, Some, None, IfOk, IfSome, position, vec_len};
-ghost use Rattle.std.specs.Option.{option_copied};
-ghost use Rattle.std.specs.Result.{result_ok};
+ghost use Rattle.std.specs.{Option.option_copied, Result.result_ok, List.list_all, Str.is_utf8};
 ghost use Rattle.hex.specs.Hex.{decode_of};
-ghost use Rattle.std.specs.List.{list_all};
-ghost use Rattle.std.specs.Str.{is_utf8};
 ghost use Rattle.of_replay.specs.Lexing.{first_word, after_first_word, is_line, word_number, moment_of, decimal, below_limit, value_of_decimal, hex_bytes, hw_of, name_in_word, state_of, is_name_byte};
 
 use of_text::is;

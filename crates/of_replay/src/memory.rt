@@ -31,8 +31,7 @@ pub struct MemorySource {
 }
 
 impl MemorySource {
-    ghost use Rattle.of_replay.specs.Told.{Gave};
-    ghost use Rattle.of_replay.specs.Memory.{source_answers, reads_of, CallFails};
+    ghost use Rattle.of_replay.specs.{Told.Gave, Memory.source_answers, Memory.reads_of, Memory.CallFails};
 
     /// A source of these bytes, in chunks of `chunk` bytes at most. From the read `fails_at` on, counted from 1, each
     /// read fails; 0: none does. Fails only where memory runs out.
@@ -177,8 +176,7 @@ impl MemorySink {
 }
 
 impl Sink for MemorySink {
-    ghost use Rattle.of_replay.specs.Told.{write_count, write_faults, IsWriting};
-    ghost use Rattle.of_replay.specs.Memory.{IsTaking};
+    ghost use Rattle.of_replay.specs.{Told.write_count, Told.write_faults, Told.IsWriting, Memory.IsTaking};
 
     ghost taken = { λ s. Some s.bytes.items };
 

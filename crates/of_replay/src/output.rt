@@ -1,9 +1,7 @@
 //! The lines that are printed, and their way to a sink.
 ghost use Rattle.std.specs.Prelude.{◌≡◌, ◌++◌, ◌<◌, ◌≤◌, ◌↔◌, [], IfErr, IsTrue, OnOk, OnErr, decimal, length};
 ghost use Rattle.std.specs.Io.KnownBytes.{Appends};
-ghost use Rattle.of_replay.specs.Transfer.{Grows, WrotePrefix};
-ghost use Rattle.of_replay.specs.Output.{line_of, refused_line, text_of};
-ghost use Rattle.of_replay.specs.Stepping.{PrintsReport};
+ghost use Rattle.of_replay.specs.{Transfer.Grows, Transfer.WrotePrefix, Output.line_of, Output.refused_line, Output.text_of, Stepping.PrintsReport};
 
 use crate::halt::Halt;
 use crate::io::Sink;

@@ -1,10 +1,7 @@
 //! Rows played on a switch.
 ghost use Rattle.std.specs.Prelude.{◌≡◌, ◌++◌, IfOk, IfErr, OnOk};
-ghost use Rattle.of_switch.specs.Runs.{drained, happened};
-ghost use Rattle.of_switch.specs.Steps.{gives};
-ghost use Rattle.of_switch.specs.declared.switch_error.SwitchError.TheVariants.{NoMemory};
-ghost use Rattle.of_replay.specs.Rows.{with_bytes};
-ghost use Rattle.of_replay.specs.Stepping.{RowGives, row_happened};
+ghost use Rattle.of_switch.specs.{Runs.drained, Runs.happened, Steps.gives, declared.switch_error.SwitchError.TheVariants.NoMemory};
+ghost use Rattle.of_replay.specs.{Rows.with_bytes, Stepping.RowGives, Stepping.row_happened};
 
 use crate::rows::Row;
 use of_classifier::Lookup;

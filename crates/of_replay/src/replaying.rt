@@ -1,12 +1,9 @@
 //! Rows as they are read, played on a switch, and what is printed for them.
 ghost use Rattle.std.specs.Prelude.{◌≡◌, ◌+◌, ◌<◌, ◌≤◌, ◌^◌, ◌++◌, ◌≢◌, ℕ, List, [], Option, IfErr, OnOk, length, take, position, ◌==◌};
 ghost use Rattle.of_switch.specs.State.{State};
-ghost use Rattle.of_replay.specs.Rows.{row_of_line};
-ghost use Rattle.of_replay.specs.Play.{PrintsLines, WrittenEarly};
-ghost use Rattle.of_replay.specs.Transfer.{Grows};
-ghost use Rattle.of_replay.specs.RowTexts.{told};
 ghost use Rattle.of_replay.specs.Told.{Answers, NoneLeft, answer_of, read_ends, read_faults, IsReading};
 ghost use Rattle.of_replay.specs.Stepping.{LineTells, LineGoes, Within, ChunkGoes, PlayedAll, PlaysRead, WritesFail, ReadsFail, ended_so};
+ghost use Rattle.of_replay.specs.{Rows.row_of_line, Play.PrintsLines, Play.WrittenEarly, Transfer.Grows, RowTexts.told};
 
 use crate::halt::Halt;
 use crate::io::{Reading, Sink, Source};

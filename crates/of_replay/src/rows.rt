@@ -1,6 +1,5 @@
 //! The rows of event files.
-ghost use Rattle.std.specs.Prelude.{◌≡◌, Some, IfOk};
-ghost use Rattle.std.specs.Option.{option_map};
+ghost use Rattle.std.specs.{Prelude.◌≡◌, Prelude.Some, Prelude.IfOk, Option.option_map};
 ghost use Rattle.of_replay.specs.Rows.{row_of_line, with_bytes, chunk_row, frame_row, port_of, change_of, added_port, removed_port, linked_port, named_row};
 
 use crate::lexing::{

@@ -1,8 +1,8 @@
 //! Readers and writers, as files and standard output are, as sources and sinks.
 ghost use Rattle.std.specs.Prelude.{◌≡◌, ◌≢◌, ◌≤◌, ◌<◌, ◌+◌, ◌^◌, length, take};
 ghost use Rattle.std.specs.Io.KnownBytes.{Appends, Consumes, IsAtEnd};
-ghost use Rattle.of_replay.specs.Passing.{passes};
 ghost use Rattle.of_replay.specs.Told.{IsReading, IsWriting, Left, answer_of, answer_bytes, read_ends, read_faults, write_count, write_faults};
+ghost use Rattle.of_replay.specs.Passing.{passes};
 
 use crate::io::{Reading, Sink, Source, Writing};
 use std::io::{ErrorKind, Read, Write};

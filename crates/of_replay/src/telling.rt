@@ -1,10 +1,7 @@
 //! What is printed for the rows of a file.
 ghost use Rattle.std.specs.Prelude.{◌≡◌, ◌++◌, ℕ, List, Option, IfErr, OnOk};
-ghost use Rattle.of_switch.specs.declared.event.Event.{Event};
-ghost use Rattle.of_switch.specs.State.{State};
-ghost use Rattle.of_switch.specs.declared.switch_error.SwitchError.TheVariants.{NoMemory};
-ghost use Rattle.of_replay.specs.Rows.{with_bytes};
-ghost use Rattle.of_replay.specs.RowTexts.{row_happened};
+ghost use Rattle.of_switch.specs.{declared.event.Event.Event, State.State, declared.switch_error.SwitchError.TheVariants.NoMemory};
+ghost use Rattle.of_replay.specs.{Rows.with_bytes, RowTexts.row_happened};
 
 use crate::rows::Row;
 use of_classifier::Lookup;

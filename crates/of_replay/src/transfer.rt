@@ -1,7 +1,5 @@
 //! Whole texts to a sink.
-ghost use Rattle.std.specs.Prelude.{◌≡◌, ◌<◌};
-ghost use Rattle.std.specs.Bool.{OnTrue, OnFalse};
-ghost use Rattle.std.specs.Io.KnownBytes.{Appends};
+ghost use Rattle.std.specs.{Prelude.◌≡◌, Prelude.◌<◌, Bool.OnTrue, Bool.OnFalse, Io.KnownBytes.Appends};
 ghost use Rattle.of_replay.specs.Transfer.{Grows, WrotePrefix};
 
 use crate::io::{Sink, Writing};

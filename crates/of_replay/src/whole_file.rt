@@ -1,7 +1,6 @@
 //! A file that is read whole.
 ghost use Rattle.std.specs.Prelude.{◌≡◌, ◌≤◌, ◌<◌, ◌++◌, [], length, OnOk, IfErr};
-ghost use Rattle.of_replay.specs.WholeFiles.{ReadsFile, bad_line as first_bad_line};
-ghost use Rattle.of_replay.specs.Stepping.{ReadsFail};
+ghost use Rattle.of_replay.specs.{WholeFiles.ReadsFile, WholeFiles.bad_line as first_bad_line, Stepping.ReadsFail};
 
 use crate::event_file::MOST_READS;
 use crate::halt::Halt;

@@ -3,8 +3,7 @@ use Rattle.std.specs.Prelude.{ℕ, List, [], ◌++◌, slice_get, codes, decimal
 use Rattle.std.specs.List.{flat_map}
 use Rattle.of_text.specs.Flows.{Flow}
 use Rattle.of_check.specs.Tables.{flows_at}
-use Rattle.of_values.specs.Entries.{entry_words}
-use Rattle.of_values.specs.Origins.{EntryOrigin, further_counter}
+use Rattle.of_values.specs.{Entries.entry_words, Origins.EntryOrigin, Origins.further_counter}
 
 -- where an entry comes from, among the origins of entries by table, then by age
 abbrev pub origin_among : ℕ → Option (List EntryOrigin) → Option EntryOrigin

@@ -1,20 +1,14 @@
 -- THE REPORT ON A SWITCH: on its flow tables, and on the groups and flows that it has.
 use Rattle.std.specs.Prelude.{◌≡◌, ◌≢◌, ◌++◌, ℕ, Bool, true, false, List, filter, Result, Ok, Err, if◌then◌else◌}
-use Rattle.of_text.specs.Configs.{Configuration}
-use Rattle.of_text.specs.Flows.{Flow}
+use Rattle.of_text.specs.{Configs.Configuration, Flows.Flow}
 use Rattle.of_table.specs.Tables.{Tables}
-use Rattle.of_replay.specs.declared.event_file.Ended.{Ended}
-use Rattle.of_replay.specs.declared.event_file.Ended.TheVariants.{Done}
-use Rattle.of_check.specs.declared.finding.Finding.{Finding}
-use Rattle.of_check.specs.Findings.{Checks}
-use Rattle.of_check.specs.declared.remark.Remark.{Remark}
-use Rattle.of_check.specs.declared.remark.Remark.TheVariants.{IngressOutput, NoBuckets}
-use Rattle.of_check.specs.Remarks.{remarks_on}
+use Rattle.of_replay.specs.{declared.event_file.Ended.Ended, declared.event_file.Ended.TheVariants.Done}
+use Rattle.of_check.specs.{declared.finding.Finding.Finding, Findings.Checks, declared.remark.Remark.Remark}
+use Rattle.of_check.specs.{declared.remark.Remark.TheVariants.IngressOutput, declared.remark.Remark.TheVariants.NoBuckets, Remarks.remarks_on}
 use Rattle.of_values.specs.Origins.{EntryOrigin}
 use Rattle.of_report.specs.declared.reporting.Form.{Form}
 use Rattle.of_report.specs.declared.reporting.Form.TheVariants.{Findings, All, AllInWords, Json}
-use Rattle.of_report.specs.Report.{report_words, is_found}
-use Rattle.of_report.specs.Json.{report_json}
+use Rattle.of_report.specs.{Report.report_words, Report.is_found, Json.report_json}
 
 -- in words, without the entries that win or with them, each with a packet in digits or in words, and a further text; or as JSON, with further members
 abbrev pub check_report_text : Form → List (List EntryOrigin) → List (List Flow) → List Finding → List Remark → List ℕ → List ℕ

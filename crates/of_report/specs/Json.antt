@@ -3,19 +3,15 @@ use Rattle.std.specs.Prelude.{ℕ, Bool, true, false, List, [], ◌∷◌, ◌++
 use Rattle.std.specs.List.{flat_map}
 use Rattle.hex.specs.Hex.{encode_lower}
 use Rattle.of_text.specs.Flows.{Flow}
-use Rattle.of_check.specs.Tables.{flows_at}
-use Rattle.of_check.specs.declared.remark.Remark.{Remark}
 use Rattle.of_check.specs.declared.remark.Remark.TheVariants.{Unreachable, NoTableMiss, EmptyGoto, IngressOutput, UnseenActions, UnusedGroup, NoBuckets}
-use Rattle.of_check.specs.declared.finding.Finding.{Finding}
-use Rattle.of_check.specs.declared.verdict.Verdict.{Verdict}
+use Rattle.of_check.specs.{Tables.flows_at, declared.remark.Remark.Remark, declared.finding.Finding.Finding, declared.verdict.Verdict.Verdict}
 use Rattle.of_check.specs.declared.verdict.Verdict.TheVariants.{Wins, Never, Unreceived, Open}
 use Rattle.of_check.specs.Verdicts.{is_never}
-use Rattle.of_values.specs.Numbers.{hexadecimal}
-use Rattle.of_values.specs.Origins.{EntryOrigin}
+use Rattle.of_values.specs.{Numbers.hexadecimal, Origins.EntryOrigin}
 use Rattle.of_json.specs.Parts.{document_head, key, listed, match_object, number_member, text_member, truth_member}
 use Rattle.of_json.specs.Strings.{array_member, counters_member}
-use Rattle.of_report.specs.Entries.{origin_at}
 use Rattle.of_report.specs.Report.{count, is_found, is_open, is_win, packet_as_words}
+use Rattle.of_report.specs.Entries.{origin_at}
 
 -- ---- a flow entry: `"table":1,"entry":0,"line":12,"priority":100,"match":{"eth_type":"0x0800"},"counters":{"n_packets":"0"}`
 

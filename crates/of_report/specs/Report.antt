@@ -3,14 +3,11 @@ use Rattle.std.specs.Prelude.{ℕ, ◌==◌, Bool, true, false, not, ◌&&◌, �
 use Rattle.std.specs.List.{flat_map, list_any}
 use Rattle.hex.specs.Hex.{encode_lower}
 use Rattle.of_text.specs.Flows.{Flow}
-use Rattle.of_check.specs.declared.remark.Remark.{Remark}
 use Rattle.of_check.specs.declared.remark.Remark.TheVariants.{Unreachable, NoTableMiss, EmptyGoto, IngressOutput, UnseenActions, UnusedGroup, NoBuckets}
-use Rattle.of_check.specs.declared.finding.Finding.{Finding}
-use Rattle.of_check.specs.declared.verdict.Verdict.{Verdict}
+use Rattle.of_check.specs.{declared.remark.Remark.Remark, declared.finding.Finding.Finding, declared.verdict.Verdict.Verdict}
 use Rattle.of_check.specs.declared.verdict.Verdict.TheVariants.{Wins, Never, Unreceived, Open}
 use Rattle.of_check.specs.Verdicts.{is_never}
-use Rattle.of_values.specs.Numbers.{hexadecimal, port_in_words}
-use Rattle.of_values.specs.Origins.{EntryOrigin}
+use Rattle.of_values.specs.{Numbers.hexadecimal, Numbers.port_in_words, Origins.EntryOrigin}
 use Rattle.of_frame_words.specs.Printed.{frame_words_of}
 use Rattle.of_report.specs.Entries.{entry}
 

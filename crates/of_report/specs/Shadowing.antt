@@ -1,19 +1,13 @@
 -- THE REPORT OF `check` ON THE FLOWS OF A FILE OF OVS-OFCTL, in words: findings first, then a summary, and then, if all is asked for, the flows that win.
 use Rattle.std.specs.Prelude.{◌≡◌, ℕ, ◌==◌, ◌||◌, Bool, not, List, [], ◌∷◌, ◌++◌, length, filter, slice_get, codes, decimal, Option, Some, None, Result, if◌then◌else◌}
 use Rattle.std.specs.List.{flat_map}
-use Rattle.of_values.specs.Entries.{entry_words}
-use Rattle.of_values.specs.Filled.{filled}
-use Rattle.of_report.specs.declared.shadowing.TheConstants.{UNREACHABLE}
-use Rattle.of_values.specs.Origins.{further_counter, view_words}
-use Rattle.of_replay.specs.declared.event_file.Ended.{Ended}
-use Rattle.of_check.specs.declared.finding.Finding.{Finding}
-use Rattle.of_check.specs.declared.verdict.Verdict.{Verdict}
-use Rattle.of_check.specs.declared.verdict.Verdict.TheVariants.{Wins, Never, Unreceived, Open}
-use Rattle.of_shadowing.specs.declared.listed_flow.ListedFlow.{ListedFlow}
-use Rattle.of_shadowing.specs.Reached.{AreUnreachable}
-use Rattle.of_shadowing.specs.Shadows.{AreVerdicts}
-use Rattle.of_report.specs.Files.{IsFindingResult}
+use Rattle.of_values.specs.{Entries.entry_words, Filled.filled, Origins.further_counter, Origins.view_words}
 use Rattle.of_report.specs.Report.{counted_words, is_found, packet_said, summary, tie_words, unreceived_words}
+use Rattle.of_report.specs.{declared.shadowing.TheConstants.UNREACHABLE, Files.IsFindingResult}
+use Rattle.of_replay.specs.declared.event_file.Ended.{Ended}
+use Rattle.of_check.specs.{declared.finding.Finding.Finding, declared.verdict.Verdict.Verdict}
+use Rattle.of_check.specs.declared.verdict.Verdict.TheVariants.{Wins, Never, Unreceived, Open}
+use Rattle.of_shadowing.specs.{declared.listed_flow.ListedFlow.ListedFlow, Reached.AreUnreachable, Shadows.AreVerdicts}
 
 -- A FLOW: `table 10 line 25 (priority 50, eth_type 0x0800, reg0=0x1)`
 unfoldable pub flow_name : ListedFlow → List ℕ

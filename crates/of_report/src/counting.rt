@@ -1,6 +1,5 @@
 //! How many entries have which verdict, and whether something is found.
-ghost use Rattle.std.specs.Prelude.{◌≡◌, not};
-ghost use Rattle.std.specs.List.{list_any};
+ghost use Rattle.std.specs.{Prelude.◌≡◌, Prelude.not, List.list_any};
 ghost use Rattle.of_check.specs.Verdicts.{is_never as is_never_in};
 ghost use Rattle.of_report.specs.Report.{count, is_finding as is_finding_among, is_found as is_found_in, is_open as is_open_in, is_win as is_win_in};
 

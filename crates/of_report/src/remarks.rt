@@ -1,9 +1,7 @@
 //! Remarks in words.
-ghost use Rattle.std.specs.Prelude.{◌≡◌, ◌++◌, OnOk, decimal};
-ghost use Rattle.std.specs.List.{flat_map, list_any};
-ghost use Rattle.of_values.specs.Numbers.{port_in_words};
+ghost use Rattle.std.specs.{Prelude.◌≡◌, Prelude.◌++◌, Prelude.OnOk, Prelude.decimal, List.flat_map, List.list_any};
+ghost use Rattle.of_values.specs.{Numbers.port_in_words, Origins.view_origins};
 ghost use Rattle.of_report.specs.Report.{report_group_words, is_finding as is_finding_among, reported_remark_line, reported_remark_words, says_unreachable as is_saying_unreachable, report_table_words};
-ghost use Rattle.of_values.specs.Origins.{view_origins};
 
 use crate::entries::push_entry;
 use of_check::Remark;

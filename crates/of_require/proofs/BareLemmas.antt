@@ -1,27 +1,18 @@
 -- What frames with the same emissions do is the same if they come in by one port.
 use Rattle.std.proofs.Common.{◌≡◌, ℕ, eqb, Bool, true, false, cond, List, [], ◌∷◌, ◌++◌, map, Option, Some, None, refl, sym, ap, ◌∙◌}
-use Rattle.std.specs.Prelude.{◌||◌, ◌&&◌}
-use Rattle.std.specs.List.{list_all, list_any}
-use Rattle.std.proofs.lemmas.List.{length-map, map-append}
+use Rattle.std.{specs.Prelude.◌||◌, specs.Prelude.◌&&◌, specs.List.list_all, specs.List.list_any, proofs.lemmas.List.length-map, proofs.lemmas.List.map-append}
 use Rattle.of_wire.specs.declared.limits.TheConstants.{OFPP_ALL, OFPP_CONTROLLER, OFPP_FLOOD, OFPP_IN_PORT}
-use Rattle.of_ports.specs.declared.port.Port.{Port}
-use Rattle.of_ports.specs.Ports.{may_send, port_at, other_ports}
-use Rattle.of_machine.specs.declared.data.Packet.{Packet}
-use Rattle.of_machine.specs.declared.data.Item.{Item}
-use Rattle.of_machine.specs.declared.data.Item.TheVariants.{PacketIn, Sent}
-use Rattle.of_machine.specs.declared.data.Step.{Step}
+use Rattle.of_ports.specs.{declared.port.Port.Port, Ports.may_send, Ports.port_at, Ports.other_ports}
 use Rattle.of_machine.specs.Rows.{Emitted, emission, empty_emitted, flooded, output_reason, packet_in_emitted, to_port}
-use Rattle.of_symbolic_run.specs.declared.state.Emission.{Emission}
-use Rattle.of_symbolic_run.specs.declared.state.Emission.TheVariants.{InvalidTtl, Output}
+use Rattle.of_machine.specs.{declared.data.Packet.Packet, declared.data.Item.Item, declared.data.Item.TheVariants.PacketIn, declared.data.Item.TheVariants.Sent, declared.data.Step.Step}
+use Rattle.of_symbolic_run.specs.{declared.state.Emission.Emission, declared.state.Emission.TheVariants.InvalidTtl, declared.state.Emission.TheVariants.Output}
 use Rattle.of_symbolic_run.specs.States.{items_for, items_of_emission, packet_for}
-use Rattle.of_paths.specs.declared.destination.Destination.{Destination}
+use Rattle.of_paths.specs.{declared.destination.Destination.Destination, Places.leaves_to}
 use Rattle.of_paths.specs.declared.destination.Destination.TheVariants as places
-use Rattle.of_paths.specs.Places.{leaves_to}
+use Rattle.of_require.specs.Requirements.{is_done, goes_among, is_dropped, is_leaving, is_nothing}
 use Rattle.of_require.specs.declared.requirement.Demand.{Demand}
 use Rattle.of_require.specs.declared.requirement.Demand.TheVariants.{Has, LeavesBy, LeavesOnlyBy, PassesTable}
-use Rattle.of_require.specs.declared.requirement.Quantifier.{Quantifier}
-use Rattle.of_require.specs.Deciding.{is_plain}
-use Rattle.of_require.specs.Requirements.{is_done, goes_among, is_dropped, is_leaving, is_nothing}
+use Rattle.of_require.specs.{declared.requirement.Quantifier.Quantifier, Deciding.is_plain}
 
 -- an item without its frame
 abbrev pub bare : Item → Item

@@ -1,39 +1,23 @@
 -- What the class of a set of frames says about all of them, if they come in by one port.
 use Rattle.std.proofs.Common.{◌≡◌, ◌<◌, ◌^◌, ℕ, zero, suc, eqb, Bool, true, false, List, [], ◌∷◌, ◌++◌, length, map, refl, sym, subst, ap, ◌∙◌, arith, inl, inr}
-use Rattle.std.specs.Prelude.{◌&&◌, bit_and, not}
-use Rattle.std.specs.List.{Contains}
-use Rattle.std.proofs.lemmas.Bool.{eq-eqb, eqb-true, ne_eqb}
-use Rattle.std.proofs.lemmas.List.Elements.{Contains-append_cases, Contains-append_right, Contains-push_cases}
-use Rattle.std.proofs.lemmas.List.{append_assoc}
-use Rattle.of_layers.specs.Fields.{ones_of}
-use Rattle.of_layers.specs.declared.field.Field.TheVariants.{InPort}
+use Rattle.std.{specs.Prelude.◌&&◌, specs.Prelude.bit_and, specs.Prelude.not, specs.List.Contains, proofs.lemmas.Bool.eq-eqb, proofs.lemmas.Bool.eqb-true, proofs.lemmas.Bool.ne_eqb}
+use Rattle.std.proofs.{lemmas.List.Elements.Contains-append_cases, lemmas.List.Elements.Contains-append_right, lemmas.List.Elements.Contains-push_cases, lemmas.List.append_assoc}
+use Rattle.of_layers.specs.{Fields.ones_of, declared.field.Field.TheVariants.InPort}
 use Rattle.of_oxm.specs.Relations.{matches_map}
-use Rattle.of_machine.specs.declared.data.Step.{Step}
-use Rattle.of_machine.specs.TheWorld.{TheWorld}
+use Rattle.of_machine.specs.{declared.data.Step.Step, TheWorld.TheWorld}
 use Rattle.of_symbolic.specs.Parts.{received_fields}
-use Rattle.of_symbolic_run.specs.FrameSets.{InFrames}
-use Rattle.of_symbolic_run.specs.PortNumbers.{IsReceivingPort, came_in_by}
-use Rattle.of_symbolic_run.specs.Received.{IsReceivedAt, items_at}
-use Rattle.of_symbolic_run.specs.States.{items_for}
-use Rattle.of_paths.specs.declared.path.Merging.TheVariants.{Each}
-use Rattle.of_paths.specs.declared.path.Path.{Path}
-use Rattle.of_paths.specs.declared.path.PathClass.{PathClass}
-use Rattle.of_paths.specs.declared.path.Paths.{Paths}
-use Rattle.of_paths.specs.declared.path.UndecidedFrames.{UndecidedFrames}
+use Rattle.of_symbolic_run.specs.{FrameSets.InFrames, PortNumbers.IsReceivingPort, PortNumbers.came_in_by, Received.IsReceivedAt, Received.items_at, States.items_for}
 use Rattle.of_paths.specs.Paths.{ArePaths, InClasses, InFirstPath, InPaths, IsPath, IsPathClass}
-use Rattle.of_paths.specs.Ways.{lines_at}
+use Rattle.of_paths.specs.{declared.path.Merging.TheVariants.Each, declared.path.Path.Path, declared.path.PathClass.PathClass, declared.path.Paths.Paths}
+use Rattle.of_paths.specs.{declared.path.UndecidedFrames.UndecidedFrames, Ways.lines_at}
 use Rattle.of_paths.proofs.PortLemmas.{and_true, both, matched_from, matched_there}
-use Rattle.of_require.specs.declared.requirement.Requirement.{Requirement}
-use Rattle.of_require.specs.declared.deciding.Decision.{Decision}
-use Rattle.of_require.specs.declared.deciding.Decision.TheVariants.{Frame, NoFrame, NoneMatches, Undecided}
-use Rattle.of_require.specs.declared.deciding.Shown.{Shown}
-use Rattle.of_require.specs.declared.deciding.Sought.{Sought}
-use Rattle.of_require.specs.declared.deciding.Sought.TheVariants as soughts
-use Rattle.of_require.specs.Packets.{IsUnknownAmong}
 use Rattle.of_require.specs.Deciding.{IsDecisionFor, IsShownOf, IsSought, IsSoughtInClasses, class_decides, first_decides, is_plain, none_leaves}
-use Rattle.of_require.specs.Decisions.{IsDeciding, NoneDecides, NoneMatch, decides}
-use Rattle.of_require.specs.Requirements.{is_done, is_leaving}
+use Rattle.of_require.specs.{declared.requirement.Requirement.Requirement, declared.deciding.Decision.Decision}
+use Rattle.of_require.specs.declared.deciding.Decision.TheVariants.{Frame, NoFrame, NoneMatches, Undecided}
+use Rattle.of_require.specs.{declared.deciding.Shown.Shown, declared.deciding.Sought.Sought, Packets.IsUnknownAmong}
+use Rattle.of_require.specs.{Decisions.IsDeciding, Decisions.NoneDecides, Decisions.NoneMatch, Decisions.decides, Requirements.is_done, Requirements.is_leaving}
 use Rattle.of_require.proofs.BareLemmas.{bare, bare_all, same_does, same_leaving}
+use Rattle.of_require.specs.declared.deciding.Sought.TheVariants as soughts
 
 pub never_both : (b : Bool) → b ≡ true → b ≡ false → ⊥
 never_both true h k = cc

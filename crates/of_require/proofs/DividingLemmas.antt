@@ -1,23 +1,13 @@
 -- Sets of frames, divided by whether conditions match.
 use Rattle.std.proofs.Common.{◌≡◌, ◌∙◌, ◌<◌, ◌+◌, ◌∷◌, ◌++◌, ℕ, zero, suc, length, get_or, take, Bool, true, false, List, [], ap, refl, sym, subst, arith, inl, inr}
-use Rattle.std.specs.Global.{Vec}
-use Rattle.std.specs.List.{Contains}
-use Rattle.std.proofs.lemmas.List.{append-nil}
-use Rattle.std.proofs.lemmas.List.Elements.{Contains-push_cases}
-use Rattle.of_oxm.specs.declared.match_field.MatchField.{MatchField}
-use Rattle.of_oxm.specs.Relations.{matches_map}
+use Rattle.std.{specs.Global.Vec, specs.List.Contains, proofs.lemmas.List.append-nil, proofs.lemmas.List.Elements.Contains-push_cases}
+use Rattle.of_oxm.specs.{declared.match_field.MatchField.MatchField, Relations.matches_map}
 use Rattle.of_rewrite.specs.Frames.{IsFrame}
 use Rattle.of_regions.specs.Conditions.{AreConditions}
-use Rattle.of_symbolic.specs.declared.pulling.Pulled.TheVariants.{Never, When}
-use Rattle.of_symbolic.specs.Parts.{AreListsOfConditions}
-use Rattle.of_symbolic.specs.InnerTags.{description_of}
-use Rattle.of_symbolic_run.specs.declared.state.Emission.{Emission}
-use Rattle.of_symbolic_run.specs.declared.frame_set.FrameSet.{FrameSet}
-use Rattle.of_symbolic_run.specs.FrameSets.{AreFramesMatching, AreFramesWithout, InFrames}
-use Rattle.of_require.specs.Deciding.{AreDivided, AreDividedByAll, InSomeSet}
-use Rattle.of_require.specs.Packets.{AreAsked, IsAskedBy, IsPartBy, IsPartByAll}
-use Rattle.of_require.proofs.DecidingLemmas.{none_in, only_in}
-use Rattle.of_require.proofs.ListLemmas.{at_end, before_end, each_more, taken_item}
+use Rattle.of_symbolic.specs.{declared.pulling.Pulled.TheVariants.Never, declared.pulling.Pulled.TheVariants.When, Parts.AreListsOfConditions, InnerTags.description_of}
+use Rattle.of_symbolic_run.specs.{declared.state.Emission.Emission, declared.frame_set.FrameSet.FrameSet, FrameSets.AreFramesMatching, FrameSets.AreFramesWithout, FrameSets.InFrames}
+use Rattle.of_require.specs.{Deciding.AreDivided, Deciding.AreDividedByAll, Deciding.InSomeSet, Packets.AreAsked, Packets.IsAskedBy, Packets.IsPartBy, Packets.IsPartByAll}
+use Rattle.of_require.proofs.{DecidingLemmas.none_in, DecidingLemmas.only_in, ListLemmas.at_end, ListLemmas.before_end, ListLemmas.each_more, ListLemmas.taken_item}
 
 module _ (m : List MatchField) where
   pub divided_none : AreDivided m [] []

@@ -4,9 +4,8 @@ use Rattle.std.proofs.lemmas.List.{append_assoc, append-nil}
 use Rattle.of_lines.specs.Lines.{before, behind, lines_of}
 use Rattle.of_text.proofs.TextLemmas.{first_line}
 use Rattle.of_ovs_words.specs.Outcomes.{◌>>=◌}
-use Rattle.of_require.specs.declared.refusal.NoRequirement.{NoRequirement}
-use Rattle.of_require.specs.declared.refusal.NoRequirement.TheVariants.{NoMemory, Refused}
 use Rattle.of_require.specs.RequirementFiles.{FileRefusal, SaidLine, StopsAt, line_said, lines_said}
+use Rattle.of_require.specs.{declared.refusal.NoRequirement.NoRequirement, declared.refusal.NoRequirement.TheVariants.NoMemory, declared.refusal.NoRequirement.TheVariants.Refused}
 use Rattle.of_require.proofs.ReadingLemmas.{behind_said}
 
 joined : (done own : List SaidLine) (outcome : Result (List SaidLine) FileRefusal) → behind_said done (outcome >>= λ others. Ok (own ++ others)) ≡ behind_said (done ++ own) outcome

@@ -1,27 +1,20 @@
 -- Frames whose packets are alike do the same, if fields are asked of what leaves.
 use Rattle.std.proofs.Common.{◌≡◌, ℕ, eqb, Bool, true, false, cond, List, [], ◌∷◌, ◌++◌, map, Option, Some, None, refl, sym, ap, ◌∙◌}
-use Rattle.std.specs.Prelude.{◌||◌, ◌&&◌, not}
-use Rattle.std.specs.List.{AllByRecursion, list_all, list_any}
-use Rattle.std.proofs.lemmas.List.{map-append}
+use Rattle.std.{specs.Prelude.◌||◌, specs.Prelude.◌&&◌, specs.Prelude.not, specs.List.AllByRecursion, specs.List.list_all, specs.List.list_any, proofs.lemmas.List.map-append}
 use Rattle.of_wire.specs.declared.limits.TheConstants.{OFPP_ALL, OFPP_CONTROLLER, OFPP_FLOOD, OFPP_IN_PORT}
 use Rattle.of_oxm.specs.declared.match_field.MatchField.{MatchField}
-use Rattle.of_ports.specs.declared.port.Port.{Port}
-use Rattle.of_ports.specs.Ports.{may_send, port_at, other_ports}
-use Rattle.of_machine.specs.declared.data.Packet.{Packet}
-use Rattle.of_machine.specs.declared.data.Item.{Item}
-use Rattle.of_machine.specs.declared.data.Item.TheVariants.{Sent}
+use Rattle.of_ports.specs.{declared.port.Port.Port, Ports.may_send, Ports.port_at, Ports.other_ports}
 use Rattle.of_machine.specs.Rows.{Emitted, emission, empty_emitted, flooded, output_reason, packet_in_emitted, to_port}
+use Rattle.of_machine.specs.{declared.data.Packet.Packet, declared.data.Item.Item, declared.data.Item.TheVariants.Sent}
 use Rattle.of_symbolic.specs.Actions.{frame_of_actions}
-use Rattle.of_symbolic_run.specs.declared.state.Emission.{Emission}
-use Rattle.of_symbolic_run.specs.declared.state.Emission.TheVariants.{InvalidTtl, Output}
+use Rattle.of_symbolic_run.specs.{declared.state.Emission.Emission, declared.state.Emission.TheVariants.InvalidTtl, declared.state.Emission.TheVariants.Output}
 use Rattle.of_symbolic_run.specs.States.{items_for, items_of_emission, packet_for}
 use Rattle.of_paths.specs.declared.destination.Destination.{Destination}
 use Rattle.of_require.specs.declared.requirement.Quantifier.{Quantifier}
 use Rattle.of_require.specs.declared.requirement.Quantifier.TheVariants.{AtLeastOne, Each, No}
-use Rattle.of_require.specs.Packets.{packet_actions}
-use Rattle.of_json.specs.ChangesInWords.{item_frame}
-use Rattle.of_require.specs.Requirements.{frame_has, goes_among, has_fields, have}
+use Rattle.of_require.specs.{Packets.packet_actions, Requirements.frame_has, Requirements.goes_among, Requirements.has_fields, Requirements.have}
 use Rattle.of_require.proofs.BareLemmas.{bare, bare_one, goes_bare}
+use Rattle.of_json.specs.ChangesInWords.{item_frame}
 
 -- ---- what is emitted has the frame of the packet
 

@@ -1,7 +1,6 @@
 -- One more element of what is walked over: an element of the part that was walked, or the last one.
 use Rattle.std.proofs.Common.{◌≡◌, ◌<◌, ◌≤◌, ◌+◌, ℕ, zero, suc, List, [], ◌∷◌, ◌++◌, length, get_or, take, refl, sym, subst, ap, ◌∙◌, arith, inl, inr}
-use Rattle.std.specs.List.{Contains}
-use Rattle.std.proofs.Math.Seq.{take-suc}
+use Rattle.std.{specs.List.Contains, proofs.Math.Seq.take-suc}
 use Rattle.std.proofs.lemmas.List.Elements.{Contains-append_left, Contains-append_right, Contains-push_cases}
 
 pub at_end : {A : Type 0} (xs : List A) (x : A) → Contains (xs ++ x ∷ []) x

@@ -1,47 +1,25 @@
 -- What is found among sets of frames whose packets are alike is found among the frames of a path.
 use Rattle.std.proofs.Common.{◌≡◌, ◌≤◌, ◌<◌, ◌^◌, ℕ, suc, Bool, true, false, List, [], ◌∷◌, ◌++◌, length, map, refl, sym, subst, ap, ◌∙◌, arith, inl, inr}
-use Rattle.std.specs.Prelude.{nat_le}
-use Rattle.std.specs.Global.{Vec}
-use Rattle.std.specs.List.{AllByRecursion, Contains}
-use Rattle.std.proofs.lemmas.Bool.Decides.{nat_tests}
-use Rattle.of_oxm.specs.declared.match_field.MatchField.{MatchField}
-use Rattle.of_oxm.specs.Relations.{matches_map}
+use Rattle.std.{specs.Prelude.nat_le, specs.Global.Vec, specs.List.AllByRecursion, specs.List.Contains, proofs.lemmas.Bool.Decides.nat_tests}
+use Rattle.of_oxm.specs.{declared.match_field.MatchField.MatchField, Relations.matches_map}
 use Rattle.of_rewrite.specs.Frames.{IsFrame}
-use Rattle.of_machine.specs.declared.data.Item.{Item}
-use Rattle.of_machine.specs.declared.data.Step.{Step}
-use Rattle.of_machine.specs.TheWorld.{TheWorld}
-use Rattle.of_symbolic.specs.declared.pulling.Pulled.TheVariants.{Never, When}
-use Rattle.of_symbolic.specs.Actions.{frame_of_actions}
-use Rattle.of_symbolic.specs.Parts.{received_fields}
-use Rattle.of_symbolic_run.specs.declared.frame_set.FrameSet.{FrameSet}
-use Rattle.of_symbolic_run.specs.declared.state.Emission.{Emission}
-use Rattle.of_symbolic_run.specs.FrameSets.{InFrames}
-use Rattle.of_symbolic_run.specs.PortNumbers.{IsReceivingPort, came_in_by}
-use Rattle.of_symbolic_run.specs.Received.{IsReceivedAt, items_at}
-use Rattle.of_symbolic_run.specs.States.{items_for}
-use Rattle.of_paths.specs.declared.destination.Destination.{Destination}
-use Rattle.of_paths.specs.declared.path.Path.{Path}
-use Rattle.of_paths.specs.declared.path.Merging.TheVariants.{Each}
-use Rattle.of_paths.specs.declared.path.PathClass.{PathClass}
-use Rattle.of_paths.specs.declared.path.Paths.{Paths}
+use Rattle.of_machine.specs.{declared.data.Item.Item, declared.data.Step.Step, TheWorld.TheWorld}
+use Rattle.of_symbolic.specs.{declared.pulling.Pulled.TheVariants.Never, declared.pulling.Pulled.TheVariants.When, Actions.frame_of_actions, Parts.received_fields}
+use Rattle.of_symbolic_run.specs.{declared.frame_set.FrameSet.FrameSet, declared.state.Emission.Emission, FrameSets.InFrames, PortNumbers.IsReceivingPort, PortNumbers.came_in_by}
+use Rattle.of_symbolic_run.specs.{Received.IsReceivedAt, Received.items_at, States.items_for}
 use Rattle.of_paths.specs.Paths.{ArePaths, InClasses, InPaths, IsPath, IsPathClass}
+use Rattle.of_paths.specs.{declared.destination.Destination.Destination, declared.path.Path.Path, declared.path.Merging.TheVariants.Each, declared.path.PathClass.PathClass}
+use Rattle.of_paths.{specs.declared.path.Paths.Paths, specs.Ways.lines_at, proofs.PortLemmas.and_true, proofs.PortLemmas.both, proofs.PortLemmas.matched_from}
 use Rattle.of_regions.specs.Witness.{IsIngressPort}
-use Rattle.of_paths.specs.Ways.{lines_at}
+use Rattle.of_require.specs.Deciding.{AreDividedByAll, IsFrameFoundIn, IsSought, IsSoughtInAll, IsSoughtInClass, IsSoughtInEach, IsSoughtInSet, IsSoughtInSets, found_so_far}
+use Rattle.of_require.specs.Packets.{AreAsked, IsAskedBy, IsUnknownAmong, IsUnknownClass, IsUnknownPath, packet_actions}
 use Rattle.of_require.specs.declared.deciding.Sought.{Sought}
 use Rattle.of_require.specs.declared.deciding.Sought.TheVariants.{Frame, NoFrame, Undecided}
-use Rattle.of_require.specs.declared.requirement.Demand.{Demand}
-use Rattle.of_require.specs.declared.requirement.Demand.TheVariants.{Has}
-use Rattle.of_require.specs.declared.requirement.Requirement.{Requirement}
-use Rattle.of_require.specs.Deciding.{AreDividedByAll, IsFrameFoundIn, IsSought, IsSoughtInAll, IsSoughtInClass, IsSoughtInEach, IsSoughtInSet, IsSoughtInSets, found_so_far}
-use Rattle.of_require.specs.Decisions.{IsDeciding, decides}
-use Rattle.of_require.specs.Packets.{AreAsked, IsAskedBy, IsUnknownAmong, IsUnknownClass, IsUnknownPath, packet_actions}
+use Rattle.of_require.specs.{declared.requirement.Demand.Demand, declared.requirement.Demand.TheVariants.Has, declared.requirement.Requirement.Requirement, Decisions.IsDeciding, Decisions.decides}
 use Rattle.of_require.specs.Requirements.{frame_has, have, is_done, is_leaving}
-use Rattle.of_require.proofs.BareLemmas.{bare, bare_all, same_leaving}
-use Rattle.of_paths.proofs.PortLemmas.{and_true, both, matched_from}
-use Rattle.of_require.proofs.DecidingLemmas.{leaves_alike, never_both, only_in}
+use Rattle.of_require.proofs.{BareLemmas.bare, BareLemmas.bare_all, BareLemmas.same_leaving, DecidingLemmas.leaves_alike, DecidingLemmas.never_both, DecidingLemmas.only_in}
 use Rattle.of_require.proofs.DividingLemmas.{AreAllIn, AreMatchedAlike, part_ways, part_within}
-use Rattle.of_require.proofs.ListLemmas.{each_more, only_one, some_more}
-use Rattle.of_require.proofs.HavingLemmas.{marked_alike, same_have}
+use Rattle.of_require.proofs.{ListLemmas.each_more, ListLemmas.only_one, ListLemmas.some_more, HavingLemmas.marked_alike, HavingLemmas.same_have}
 
 -- ---- packets of frames that conditions match alike
 

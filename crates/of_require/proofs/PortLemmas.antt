@@ -1,19 +1,12 @@
 -- What is decided for all ports of a switch is decided for all frames that it receives.
 use Rattle.std.proofs.Common.{◌≡◌, ◌<◌, ◌≤◌, ◌+◌, ℕ, suc, eqb, Bool, true, false, cond, List, [], ◌∷◌, ◌++◌, length, get_or, map, take, Some, refl, subst, ap, ◌∙◌, arith}
-use Rattle.std.specs.List.{Contains}
-use Rattle.std.proofs.Math.Seq.{take-suc}
-use Rattle.std.proofs.lemmas.Bool.{eqb-true}
-use Rattle.std.proofs.lemmas.List.{map-append, take_all}
-use Rattle.of_ports.specs.declared.port.Port.{Port}
-use Rattle.of_ports.specs.Ports.{number_of_port, port_at}
+use Rattle.std.{specs.List.Contains, proofs.Math.Seq.take-suc, proofs.lemmas.Bool.eqb-true, proofs.lemmas.List.map-append, proofs.lemmas.List.take_all}
+use Rattle.of_ports.specs.{declared.port.Port.Port, Ports.number_of_port, Ports.port_at}
 use Rattle.of_machine.specs.TheWorld.{TheWorld}
 use Rattle.of_require.specs.declared.deciding.Decision.{Decision}
 use Rattle.of_require.specs.declared.deciding.Decision.TheVariants.{Frame, NoFrame, NoneMatches, Undecided}
-use Rattle.of_require.specs.declared.requirement.Requirement.{Requirement}
-use Rattle.of_require.specs.Deciding.{IsDecisionFor}
+use Rattle.of_require.{specs.declared.requirement.Requirement.Requirement, specs.Deciding.IsDecisionFor, specs.Decisions.IsDecision, specs.Decisions.NoneMatch, proofs.DecidingLemmas.only_in}
 use Rattle.of_symbolic_run.specs.PortNumbers.{IsReceivingPort}
-use Rattle.of_require.specs.Decisions.{IsDecision, NoneMatch}
-use Rattle.of_require.proofs.DecidingLemmas.{only_in}
 
 -- ---- lists of ports
 

@@ -1,15 +1,10 @@
 -- Requirements in words, one word after the other.
 use Rattle.std.proofs.Common.{◌≡◌, ◌<◌, ℕ, eqb, Bool, false, List, [], ◌∷◌, ◌++◌, length, Result, Ok, Err, refl, sym, ap, ◌∙◌}
-use Rattle.std.specs.Prelude.{if◌then◌else◌, is_err, is_ok}
-use Rattle.std.proofs.lemmas.List.{append_assoc, append-nil}
-use Rattle.of_ovs_words.specs.Outcomes.{◌>>=◌}
-use Rattle.of_ovs_words.specs.Words.{after_word, word_in, words_from}
-use Rattle.of_ovs_words.proofs.WordLemmas.{first_word}
+use Rattle.std.{specs.Prelude.if◌then◌else◌, specs.Prelude.is_err, specs.Prelude.is_ok, proofs.lemmas.List.append_assoc, proofs.lemmas.List.append-nil}
+use Rattle.of_ovs_words.{specs.Outcomes.◌>>=◌, specs.Words.after_word, specs.Words.word_in, specs.Words.words_from, proofs.WordLemmas.first_word}
 use Rattle.of_paths.specs.declared.destination.Destination.{Destination}
-use Rattle.of_require.specs.declared.refusal.NoRequirement.{NoRequirement}
-use Rattle.of_require.specs.declared.refusal.NoRequirement.TheVariants.{NoMemory, Refused}
-use Rattle.of_require.specs.Reading.{place_named, places_in}
-use Rattle.of_require.specs.Refusals.{LineRefusal, LineStops, each_said}
+use Rattle.of_require.specs.{declared.refusal.NoRequirement.NoRequirement, declared.refusal.NoRequirement.TheVariants.NoMemory, declared.refusal.NoRequirement.TheVariants.Refused}
+use Rattle.of_require.specs.{Reading.place_named, Reading.places_in, Refusals.LineRefusal, Refusals.LineStops, Refusals.each_said}
 
 -- ---- what each of some says, behind what those before it say
 

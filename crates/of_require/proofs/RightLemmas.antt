@@ -2,13 +2,12 @@
 use Rattle.std.proofs.Common.{◌≡◌, ℕ, Bool, true, false, List, refl, sym, subst, ap}
 use Rattle.std.specs.Prelude.{⊤}
 use Rattle.of_machine.specs.TheWorld.{TheWorld}
+use Rattle.of_require.specs.Decisions.{IsDeciding, IsDecision, IsRight, NoneDecides, decides_so, verdict_by, verdict_by_frame, verdict_by_none}
 use Rattle.of_require.specs.declared.deciding.Decision.{Decision}
 use Rattle.of_require.specs.declared.deciding.Decision.TheVariants.{Frame, NoFrame, NoneMatches, Undecided}
 use Rattle.of_require.specs.declared.requirement.Quantifier.{Quantifier}
 use Rattle.of_require.specs.declared.requirement.Quantifier.TheVariants.{AtLeastOne, Each, No}
-use Rattle.of_require.specs.declared.requirement.Requirement.{Requirement}
-use Rattle.of_require.specs.Decisions.{IsDeciding, IsDecision, IsRight, NoneDecides, decides_so, verdict_by, verdict_by_frame, verdict_by_none}
-use Rattle.of_require.specs.Requirements.{IsAbout, IsMet, IsMetBy, does_at}
+use Rattle.of_require.specs.{declared.requirement.Requirement.Requirement, Requirements.IsAbout, Requirements.IsMet, Requirements.IsMetBy, Requirements.does_at}
 use Rattle.of_require.proofs.DecidingLemmas.{no_match}
 
 both_ways : (b : Bool) → b ≡ true → b ≡ false → ⊥

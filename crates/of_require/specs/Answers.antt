@@ -1,10 +1,7 @@
 -- WHAT IS FOUND about requirements: for each a decision, and the verdict that follows from it.
 use Rattle.std.specs.Prelude.{ℕ, ◌==◌, Bool, true, false, not, List, filter, length, if◌then◌else◌}
 use Rattle.of_machine.specs.TheWorld.{TheWorld}
-use Rattle.of_require.specs.declared.answers.Answer.{Answer}
-use Rattle.of_require.specs.declared.deciding.Decision.{Decision}
-use Rattle.of_require.specs.declared.deciding.Decision.TheVariants.{NoneMatches}
-use Rattle.of_require.specs.declared.deciding.Verdict.{Verdict}
+use Rattle.of_require.specs.{declared.answers.Answer.Answer, declared.deciding.Decision.Decision, declared.deciding.Decision.TheVariants.NoneMatches, declared.deciding.Verdict.Verdict}
 use Rattle.of_require.specs.declared.deciding.Verdict.TheVariants.{Fails, Holds, Undecided}
 use Rattle.of_require.specs.Decisions.{IsDecision, verdict_by}
 

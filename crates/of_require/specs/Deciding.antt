@@ -1,33 +1,19 @@
 -- For contracts inside this crate: classes of frames that decide a requirement, and the sets into which frames are divided by what packets ask.
 use Rattle.std.specs.Prelude.{◌≡◌, ◌≤◌, ◌<◌, ◌^◌, ◌⊎◌, ℕ, Bool, true, false, not, List, [], ◌∷◌, length}
-use Rattle.std.specs.Global.{Vec}
-use Rattle.std.specs.List.{Contains, list_all}
+use Rattle.std.specs.{Global.Vec, List.Contains, List.list_all}
 use Rattle.of_oxm.specs.declared.match_field.MatchField.{MatchField}
 use Rattle.of_rewrite.specs.Frames.{IsFrame}
 use Rattle.of_symbolic_run.specs.declared.finding.FrameFound.TheVariants as found
-use Rattle.of_symbolic_run.specs.declared.frame_set.FrameSet.{FrameSet}
-use Rattle.of_symbolic_run.specs.FrameSets.{FindsFrame, InFrames}
-use Rattle.of_symbolic_run.specs.PortNumbers.{IsReceivingPort, came_in_by}
-use Rattle.of_symbolic_run.specs.Received.{items_at}
-use Rattle.of_machine.specs.declared.data.Step.{Step}
-use Rattle.of_machine.specs.declared.data.Item.{Item}
-use Rattle.of_machine.specs.TheWorld.{TheWorld}
-use Rattle.of_paths.specs.declared.path.Path.{Path}
-use Rattle.of_paths.specs.declared.destination.Destination.{Destination}
-use Rattle.of_paths.specs.declared.path.PathClass.{PathClass}
-use Rattle.of_paths.specs.declared.path.Merging.TheVariants as merging
-use Rattle.of_paths.specs.declared.path.Paths.{Paths}
+use Rattle.of_symbolic_run.specs.{declared.frame_set.FrameSet.FrameSet, FrameSets.FindsFrame, FrameSets.InFrames, PortNumbers.IsReceivingPort, PortNumbers.came_in_by, Received.items_at}
+use Rattle.of_machine.specs.{declared.data.Step.Step, declared.data.Item.Item, TheWorld.TheWorld}
 use Rattle.of_paths.specs.Paths.{ArePaths, InClasses, InPaths, IsPath, IsPathClass}
-use Rattle.of_require.specs.declared.deciding.Decision.{Decision}
-use Rattle.of_require.specs.declared.deciding.Shown.{Shown}
-use Rattle.of_require.specs.declared.deciding.Sought.{Sought}
-use Rattle.of_require.specs.declared.deciding.Sought.TheVariants.{Frame, NoFrame, Undecided}
-use Rattle.of_require.specs.declared.requirement.Demand.{Demand}
-use Rattle.of_require.specs.declared.requirement.Demand.TheVariants.{Has}
-use Rattle.of_require.specs.declared.requirement.Requirement.{Requirement}
-use Rattle.of_require.specs.Decisions.{IsDeciding, IsDecisionAmong, decides}
+use Rattle.of_paths.specs.{declared.path.Path.Path, declared.destination.Destination.Destination, declared.path.PathClass.PathClass, declared.path.Paths.Paths}
+use Rattle.of_paths.specs.declared.path.Merging.TheVariants as merging
 use Rattle.of_require.specs.Packets.{IsPartBy, IsPartByAll, IsUnknownAmong, IsUnknownClass, IsUnknownPath}
-use Rattle.of_require.specs.Requirements.{is_leaving}
+use Rattle.of_require.specs.{declared.deciding.Decision.Decision, declared.deciding.Shown.Shown, declared.deciding.Sought.Sought}
+use Rattle.of_require.specs.declared.deciding.Sought.TheVariants.{Frame, NoFrame, Undecided}
+use Rattle.of_require.specs.{declared.requirement.Demand.Demand, declared.requirement.Demand.TheVariants.Has, declared.requirement.Requirement.Requirement}
+use Rattle.of_require.specs.{Decisions.IsDeciding, Decisions.IsDecisionAmong, Decisions.decides, Requirements.is_leaving}
 
 abbrev pub first_decides : Requirement → ℕ → List Path → List Item → Bool
 first_decides r in_port [] items = false

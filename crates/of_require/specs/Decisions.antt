@@ -1,24 +1,18 @@
 -- WHETHER A REQUIREMENT IS MET, as it is decided: by a frame, or since no frame decides it (OpenFlow 1.3.5, 5.1).
 use Rattle.std.specs.Prelude.{◌≡◌, ◌<◌, ℕ, ◌&&◌, ◌⊎◌, Bool, true, not, List, ◌∷◌, length, ⊤}
 use Rattle.of_oxm.specs.Relations.{matches_map}
-use Rattle.of_machine.specs.declared.data.Item.{Item}
-use Rattle.of_machine.specs.declared.data.Step.{Step}
-use Rattle.of_machine.specs.TheWorld.{TheWorld}
+use Rattle.of_machine.specs.{declared.data.Item.Item, declared.data.Step.Step, TheWorld.TheWorld}
 use Rattle.of_symbolic.specs.Parts.{received_fields}
-use Rattle.of_symbolic_run.specs.PortNumbers.{IsReceivingPort, came_in_by}
-use Rattle.of_symbolic_run.specs.Received.{IsReceivedAt, items_at}
-use Rattle.of_paths.specs.Paths.{ArePaths}
+use Rattle.of_symbolic_run.specs.{PortNumbers.IsReceivingPort, PortNumbers.came_in_by, Received.IsReceivedAt, Received.items_at}
+use Rattle.of_paths.specs.{Paths.ArePaths, declared.path.Paths.Paths}
 use Rattle.of_paths.specs.declared.path.Merging.TheVariants as merging
-use Rattle.of_paths.specs.declared.path.Paths.{Paths}
+use Rattle.of_require.specs.Requirements.{IsAbout, IsMet, is_done, does_at, is_counted, is_leaving}
 use Rattle.of_require.specs.declared.deciding.Decision.{Decision}
 use Rattle.of_require.specs.declared.deciding.Decision.TheVariants.{Frame, NoFrame, NoneMatches, Undecided}
 use Rattle.of_require.specs.declared.requirement.Quantifier.{Quantifier}
 use Rattle.of_require.specs.declared.requirement.Quantifier.TheVariants.{AtLeastOne, Each, No}
-use Rattle.of_require.specs.declared.requirement.Requirement.{Requirement}
-use Rattle.of_require.specs.declared.deciding.Verdict.{Verdict}
+use Rattle.of_require.specs.{declared.requirement.Requirement.Requirement, declared.deciding.Verdict.Verdict, Packets.IsUnknownAmong}
 use Rattle.of_require.specs.declared.deciding.Verdict.TheVariants as verdicts
-use Rattle.of_require.specs.Packets.{IsUnknownAmong}
-use Rattle.of_require.specs.Requirements.{IsAbout, IsMet, is_done, does_at, is_counted, is_leaving}
 
 -- a frame of which it is asked whether it does something decides: against `each` if it does not, against `no` and for `some` if it does
 abbrev pub decides_so : Quantifier → Bool → Bool

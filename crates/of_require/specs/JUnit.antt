@@ -1,14 +1,11 @@
 -- THE REPORT ON REQUIREMENTS AS XML, as JUnit writes the results of tests: a test case for each requirement, which fails if the requirement does not hold.
 use Rattle.std.specs.Prelude.{ℕ, ◌==◌, List, [], ◌∷◌, ◌++◌, length, codes, decimal, if◌then◌else◌}
 use Rattle.std.specs.List.{flat_map}
-use Rattle.of_values.specs.Filled.{filled}
-use Rattle.of_values.specs.Origins.{printable}
-use Rattle.of_require.specs.declared.answers.Answer.{Answer}
-use Rattle.of_require.specs.declared.deciding.Verdict.{Verdict}
+use Rattle.of_values.specs.{Filled.filled, Origins.printable}
+use Rattle.of_require.specs.{declared.answers.Answer.Answer, declared.deciding.Verdict.Verdict}
 use Rattle.of_require.specs.declared.deciding.Verdict.TheVariants.{Fails, Holds, Undecided}
+use Rattle.of_require.specs.{Answers.count_verdicts, Answers.verdict_of, Words.why_decided}
 use Rattle.of_require.specs.declared.junit.TheConstants as line
-use Rattle.of_require.specs.Answers.{count_verdicts, verdict_of}
-use Rattle.of_require.specs.Words.{why_decided}
 
 -- a character of an attribute's value, which is between apostrophes
 abbrev pub xml_character : ℕ → List ℕ

@@ -1,7 +1,5 @@
 -- That a list is one of conditions has one proof at most.
-use Rattle.std.proofs.Math.Nat.{ℕ_set}
-use Rattle.std.specs.Prelude.{List}
-use Rattle.std.specs.List.{AllByRecursion-prop}
+use Rattle.std.{specs.Prelude.List, specs.List.AllByRecursion-prop, proofs.Math.Nat.ℕ_set}
 use Rattle.of_oxm.specs.declared.match_field.MatchField.{MatchField}
 use Rattle.of_regions.specs.Conditions.{AreConditions, IsCondition}
 

@@ -1,26 +1,16 @@
 -- WHICH FRAMES MAKE THE PACKETS of a path have some fields when they leave (OpenFlow 1.3.5, 5.12), and when that is not known.
 use Rattle.std.specs.Prelude.{◌≡◌, ◌⊎◌, ℕ, Bool, true, List, [], ◌∷◌}
-use Rattle.std.specs.Global.{Vec}
-use Rattle.std.specs.List.{Contains}
+use Rattle.std.specs.{Global.Vec, List.Contains}
 use Rattle.of_oxm.specs.declared.match_field.MatchField.{MatchField}
 use Rattle.of_rewrite.specs.Frames.{IsFrame}
 use Rattle.of_actions.specs.declared.action.Action.{Action}
-use Rattle.of_symbolic.specs.declared.overlay.Overlay.{Overlay}
-use Rattle.of_symbolic.specs.declared.pulling.Pulled.{Pulled}
-use Rattle.of_symbolic.specs.declared.pulling.Pulled.TheVariants.{Never, When}
-use Rattle.of_symbolic.specs.Actions.{frame_of_actions}
-use Rattle.of_symbolic.specs.Overlays.{IsOverlay}
-use Rattle.of_symbolic.specs.Pulling.{IsTrueOfFrames, is_unknown_in}
+use Rattle.of_symbolic.specs.{declared.overlay.Overlay.Overlay, declared.pulling.Pulled.Pulled, declared.pulling.Pulled.TheVariants.Never, declared.pulling.Pulled.TheVariants.When}
+use Rattle.of_symbolic.specs.{Actions.frame_of_actions, Overlays.IsOverlay, Pulling.IsTrueOfFrames, Pulling.is_unknown_in}
 use Rattle.of_symbolic_run.specs.declared.finding.FrameFound.TheVariants as found
-use Rattle.of_symbolic_run.specs.declared.frame_set.FrameSet.{FrameSet}
-use Rattle.of_symbolic_run.specs.declared.state.Emission.{Emission}
-use Rattle.of_symbolic_run.specs.declared.state.Emission.TheVariants.{InvalidTtl, Output}
+use Rattle.of_symbolic_run.specs.{declared.frame_set.FrameSet.FrameSet, declared.state.Emission.Emission, declared.state.Emission.TheVariants.InvalidTtl, declared.state.Emission.TheVariants.Output}
 use Rattle.of_symbolic_run.specs.FrameSets.{AreFramesMatching, AreFramesWithout, FindsFrame}
-use Rattle.of_paths.specs.declared.path.Path.{Path}
-use Rattle.of_paths.specs.declared.path.PathClass.{PathClass}
-use Rattle.of_require.specs.declared.requirement.Demand.{Demand}
-use Rattle.of_require.specs.declared.requirement.Demand.TheVariants.{Has}
-use Rattle.of_require.specs.Requirements.{is_leaving}
+use Rattle.of_paths.specs.{declared.path.Path.Path, declared.path.PathClass.PathClass}
+use Rattle.of_require.specs.{declared.requirement.Demand.Demand, declared.requirement.Demand.TheVariants.Has, Requirements.is_leaving}
 
 -- the actions that made a packet of the frame that came in
 abbrev pub packet_actions : Emission → List Action

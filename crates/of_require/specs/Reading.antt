@@ -1,31 +1,20 @@
 -- REQUIREMENTS IN WORDS, one a line: `no frame ip,nw_src=10.0.9.0/24 leaves by 2,3,4`. Words are separated by spaces. A match has the words of
 -- ovs-fields(7), with commas between them.
 use Rattle.std.specs.Prelude.{ℕ, ◌==◌, ◌||◌, Bool, true, false, List, [], ◌∷◌, length, codes, Result, Ok, Err, if◌then◌else◌}
-use Rattle.std.specs.List.{list_any}
-use Rattle.std.specs.Str.{bytes_eq}
+use Rattle.std.specs.{List.list_any, Str.bytes_eq}
 use Rattle.of_wire.specs.declared.limits.TheConstants.{OFPP_CONTROLLER, TABLES}
 use Rattle.of_actions.specs.PortNumbers.{is_number as is_port_number}
 use Rattle.of_lines.specs.Lines.{before, behind}
 use Rattle.of_oxm.specs.declared.match_field.MatchField.{MatchField}
-use Rattle.of_ovs_words.specs.declared.why.Why.{Why as WordWhy}
-use Rattle.of_ovs_words.specs.declared.why.Why.TheVariants.{Unknown}
-use Rattle.of_ovs_words.specs.Outcomes.{◌>>=◌, numbered}
-use Rattle.of_ovs_words.specs.Ports.{port_in}
-use Rattle.of_ovs_words.specs.Words.{words_from}
-use Rattle.of_frame_words.specs.Conditions.{conditions_in_words}
-use Rattle.of_frame_words.specs.Said.{WordRefusal}
+use Rattle.of_ovs_words.specs.{declared.why.Why.Why as WordWhy, declared.why.Why.TheVariants.Unknown, Outcomes.◌>>=◌, Outcomes.numbered, Ports.port_in, Words.words_from}
+use Rattle.of_frame_words.specs.{Conditions.conditions_in_words, Said.WordRefusal, Fields.is_match}
 use Rattle.of_paths.specs.declared.destination.Destination.{Destination}
 use Rattle.of_paths.specs.declared.destination.Destination.TheVariants.{Controller, Nothing, Port}
-use Rattle.of_require.specs.declared.refusal.Why.{Why}
-use Rattle.of_require.specs.declared.refusal.Why.TheVariants as whys
-use Rattle.of_require.specs.declared.requirement.Demand.{Demand}
-use Rattle.of_require.specs.declared.requirement.Demand.TheVariants as demands
-use Rattle.of_require.specs.declared.requirement.Quantifier.{Quantifier}
+use Rattle.of_require.specs.{declared.refusal.Why.Why, declared.requirement.Demand.Demand, declared.requirement.Quantifier.Quantifier}
 use Rattle.of_require.specs.declared.requirement.Quantifier.TheVariants.{AtLeastOne, Each, No}
-use Rattle.of_require.specs.declared.requirement.Requirement.{Requirement}
-use Rattle.of_frame_words.specs.Fields.{is_match}
-use Rattle.of_require.specs.Refusals.{LineRefusal, each_said, word_refused}
-use Rattle.of_require.specs.Requirements.{is_nothing}
+use Rattle.of_require.specs.{declared.requirement.Requirement.Requirement, Refusals.LineRefusal, Refusals.each_said, Refusals.word_refused, Requirements.is_nothing}
+use Rattle.of_require.specs.declared.refusal.Why.TheVariants as whys
+use Rattle.of_require.specs.declared.requirement.Demand.TheVariants as demands
 
 -- ---- words
 

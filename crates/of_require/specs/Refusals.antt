@@ -1,8 +1,7 @@
 -- Why a line is no requirement: memory ran out, or a word is refused.
 use Rattle.std.specs.Prelude.{◌≡◌, ℕ, List, [], ◌∷◌, Result, Ok, Err}
 use Rattle.of_ovs_words.specs.Outcomes.{◌>>=◌}
-use Rattle.of_require.specs.declared.refusal.NoRequirement.{NoRequirement}
-use Rattle.of_require.specs.declared.refusal.NoRequirement.TheVariants.{NoMemory, Refused}
+use Rattle.of_require.specs.{declared.refusal.NoRequirement.NoRequirement, declared.refusal.NoRequirement.TheVariants.NoMemory, declared.refusal.NoRequirement.TheVariants.Refused}
 use Rattle.of_require.specs.declared.refusal.Why.{Why}
 
 -- a word that is refused, and why

@@ -2,12 +2,9 @@
 use Rattle.std.specs.Prelude.{◌≡◌, ℕ, ◌+◌, Bool, List, [], ◌∷◌, ◌++◌, map, Result, Ok, Err, if◌then◌else◌}
 use Rattle.of_lines.specs.Lines.{before, is_passed, lines_of}
 use Rattle.of_ovs_words.specs.Outcomes.{◌>>=◌}
-use Rattle.of_require.specs.declared.line.Line.{Line}
-use Rattle.of_require.specs.declared.refusal.NoRequirements.{NoRequirements}
-use Rattle.of_require.specs.declared.refusal.NoRequirement.{NoRequirement}
+use Rattle.of_require.specs.{declared.line.Line.Line, declared.refusal.NoRequirements.NoRequirements, declared.refusal.NoRequirement.NoRequirement}
 use Rattle.of_require.specs.declared.refusal.NoRequirement.TheVariants.{NoMemory, Refused}
-use Rattle.of_require.specs.Reading.{SaidRequirement, requirement_said, unspaced, view_requirement}
-use Rattle.of_require.specs.Refusals.{LineRefusal}
+use Rattle.of_require.specs.{Reading.SaidRequirement, Reading.requirement_said, Reading.unspaced, Reading.view_requirement, Refusals.LineRefusal}
 
 pub record SaidLine : Type 0 where
   pub number : ℕ

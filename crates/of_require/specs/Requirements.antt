@@ -1,19 +1,13 @@
 -- REQUIREMENTS OF A SWITCH: what no frame, each frame or some frame does that it receives (OpenFlow 1.3.5, 5.1 and 5.12).
 use Rattle.std.specs.Prelude.{◌≡◌, ℕ, ◌==◌, ◌&&◌, ◌||◌, nat_le, Bool, true, false, not, List, length}
 use Rattle.std.specs.List.{list_all, list_any}
-use Rattle.of_oxm.specs.declared.match_field.MatchField.{MatchField}
-use Rattle.of_oxm.specs.Relations.{matches_map}
-use Rattle.of_machine.specs.declared.data.Item.{Item}
-use Rattle.of_machine.specs.declared.data.Step.{Step}
-use Rattle.of_machine.specs.declared.data.Step.TheVariants.{Entry, Miss, TtlExpired}
+use Rattle.of_oxm.specs.{declared.match_field.MatchField.MatchField, Relations.matches_map}
+use Rattle.of_machine.specs.{declared.data.Item.Item, declared.data.Step.Step, declared.data.Step.TheVariants.Entry, declared.data.Step.TheVariants.Miss, declared.data.Step.TheVariants.TtlExpired}
 use Rattle.of_machine.specs.TheWorld.{TheWorld}
 use Rattle.of_symbolic.specs.Parts.{received_fields}
 use Rattle.of_symbolic_run.specs.Received.{IsReceivedAt, items_at}
 use Rattle.of_json.specs.ChangesInWords.{item_frame}
-use Rattle.of_paths.specs.Ways.{lines_at}
-use Rattle.of_paths.specs.declared.destination.Destination.{Destination}
-use Rattle.of_paths.specs.declared.destination.Destination.TheVariants.{Nothing}
-use Rattle.of_paths.specs.Places.{leaves_to}
+use Rattle.of_paths.specs.{Ways.lines_at, declared.destination.Destination.Destination, declared.destination.Destination.TheVariants.Nothing, Places.leaves_to}
 use Rattle.of_require.specs.declared.requirement.Demand.{Demand}
 use Rattle.of_require.specs.declared.requirement.Demand.TheVariants.{Has, LeavesBy, LeavesOnlyBy, PassesTable}
 use Rattle.of_require.specs.declared.requirement.Quantifier.{Quantifier}

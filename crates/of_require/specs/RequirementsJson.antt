@@ -1,18 +1,13 @@
 -- THE REPORT ON REQUIREMENTS AS JSON (RFC 8259): a member of the report of `check`.
 use Rattle.std.specs.Prelude.{ℕ, List, [], ◌∷◌, ◌++◌, codes, decimal}
 use Rattle.hex.specs.Hex.{encode_lower}
-use Rattle.of_json.specs.LeavingJson.{items_member}
-use Rattle.of_json.specs.ChangesInJson.{changes_member}
-use Rattle.of_values.specs.Filled.{filled}
-use Rattle.of_json.specs.Parts.{listed, number_member, text_member, truth_member}
+use Rattle.of_json.specs.{LeavingJson.items_member, ChangesInJson.changes_member, Parts.listed, Parts.number_member, Parts.text_member, Parts.truth_member}
 use Rattle.of_json.specs.Strings.{array_member, string_member}
-use Rattle.of_require.specs.declared.answers.Answer.{Answer}
-use Rattle.of_require.specs.declared.deciding.Decision.{Decision}
-use Rattle.of_require.specs.declared.deciding.Decision.TheVariants.{Frame, Undecided as NotKnown}
-use Rattle.of_require.specs.declared.deciding.Verdict.{Verdict}
+use Rattle.of_values.specs.Filled.{filled}
+use Rattle.of_require.specs.{declared.answers.Answer.Answer, declared.deciding.Decision.Decision}
+use Rattle.of_require.specs.{declared.deciding.Decision.TheVariants.Frame, declared.deciding.Decision.TheVariants.Undecided as NotKnown, declared.deciding.Verdict.Verdict}
 use Rattle.of_require.specs.declared.deciding.Verdict.TheVariants.{Fails, Holds, Undecided}
-use Rattle.of_require.specs.declared.json.TheConstants.{LINE}
-use Rattle.of_require.specs.Answers.{may_match, verdict_of}
+use Rattle.of_require.specs.{declared.json.TheConstants.LINE, Answers.may_match, Answers.verdict_of}
 
 abbrev pub verdict_name : Verdict → List ℕ
 verdict_name Holds = codes "holds"

@@ -1,17 +1,13 @@
 -- THE REPORT ON REQUIREMENTS in words: a line for each that fails, is undecided or matches no frame, with the frame that decides it, and a summary.
 use Rattle.std.specs.Prelude.{ℕ, ◌==◌, ◌||◌, Bool, not, List, [], ◌∷◌, ◌++◌, length, map, codes, decimal, if◌then◌else◌}
 use Rattle.std.specs.List.{flat_map}
-use Rattle.of_json.specs.LeavingWords.{frame_lines}
-use Rattle.of_values.specs.Filled.{filled}
-use Rattle.of_values.specs.Origins.{printable}
-use Rattle.of_json.specs.ChangesInWords.{changed_side_words}
-use Rattle.of_require.specs.declared.answers.Answer.{Answer}
-use Rattle.of_require.specs.declared.deciding.Decision.{Decision}
+use Rattle.of_json.specs.{LeavingWords.frame_lines, ChangesInWords.changed_side_words}
+use Rattle.of_values.specs.{Filled.filled, Origins.printable}
+use Rattle.of_require.specs.{declared.answers.Answer.Answer, declared.deciding.Decision.Decision}
 use Rattle.of_require.specs.declared.deciding.Decision.TheVariants.{Frame, NoFrame, NoneMatches, Undecided}
-use Rattle.of_require.specs.declared.deciding.Verdict.{Verdict}
+use Rattle.of_require.specs.{declared.deciding.Verdict.Verdict, Answers.count_verdicts, Answers.is_verdict, Answers.may_match, Answers.verdict_of}
 use Rattle.of_require.specs.declared.deciding.Verdict.TheVariants as verdicts
 use Rattle.of_require.specs.declared.words.TheConstants as line
-use Rattle.of_require.specs.Answers.{count_verdicts, is_verdict, may_match, verdict_of}
 
 abbrev pub verdict_begun : Verdict → List ℕ
 verdict_begun verdicts.Holds = line.HOLDS

@@ -1,8 +1,6 @@
 //! What is found about requirements.
-ghost use Rattle.std.specs.Prelude.{◌≡◌, IfOk, map};
-ghost use Rattle.std.specs.List.{AllByRecursion};
-ghost use Rattle.of_datapath.specs.Datapath.{world_of};
-ghost use Rattle.of_datapath.specs.Numbers.{forwarding_of};
+ghost use Rattle.std.specs.{Prelude.◌≡◌, Prelude.IfOk, Prelude.map, List.AllByRecursion};
+ghost use Rattle.of_datapath.specs.{Datapath.world_of, Numbers.forwarding_of};
 ghost use Rattle.of_require.specs.Answers.{IsFoundAbout, count_verdicts, is_verdict, verdict_of, worst_of};
 
 use crate::deciding::{Decision, Verdict, decide};

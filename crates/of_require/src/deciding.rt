@@ -1,14 +1,11 @@
 //! Whether a switch meets a requirement.
 ghost use Rattle.std.specs.Prelude.{◌≡◌, ◌∷◌, ◌++◌, [], ℕ, List, IfNone, IfOk, IfSome, false, not, true};
 ghost use Rattle.std.specs.List.{Contains};
-ghost use Rattle.of_datapath.specs.Datapath.{world_of};
-ghost use Rattle.of_datapath.specs.Numbers.{forwarding_of};
+ghost use Rattle.of_datapath.specs.{Datapath.world_of, Numbers.forwarding_of};
 ghost use Rattle.of_machine.specs.TheWorld.{TheWorld};
 ghost use Rattle.of_paths.specs.declared.path.PathClass.{PathClass as APathClass};
 ghost use Rattle.of_require.specs.Deciding.{IsDecisionFor, IsShownOf, IsSoughtInClass, IsSoughtInClasses, IsSoughtInEach, class_decides as decided_by_class, found_so_far, is_plain, none_leaves as none_leaves_by};
-ghost use Rattle.of_require.specs.Decisions.{IsDecision, verdict_by};
-ghost use Rattle.of_require.specs.Requirements.{is_leaving as is_leaving_by};
-ghost use Rattle.of_require.specs.declared.requirement.Requirement.{Requirement as ARequirement};
+ghost use Rattle.of_require.specs.{Decisions.IsDecision, Decisions.verdict_by, Requirements.is_leaving as is_leaving_by, declared.requirement.Requirement.Requirement as ARequirement};
 
 use crate::doing::{decides, is_leaving};
 use crate::packets::seek_in_path;

@@ -1,8 +1,7 @@
 //! What a frame does, by the steps and the items of its run.
-ghost use Rattle.std.specs.Prelude.{◌≡◌, ◌&&◌, ◌||◌, not};
-ghost use Rattle.std.specs.List.{list_all, list_any};
-ghost use Rattle.of_require.specs.Decisions.{decides as decides_by};
+ghost use Rattle.std.specs.{Prelude.◌≡◌, Prelude.◌&&◌, Prelude.◌||◌, Prelude.not, List.list_all, List.list_any};
 ghost use Rattle.of_require.specs.Requirements.{is_done as does_by, frame_has as frame_has_fields, goes_among, has_fields as has_fields_by, have as have_by, is_counted as is_counted_by, is_dropped as is_dropped_by, is_expiry, is_leaving as is_leaving_by, is_lookup_in, is_nothing};
+ghost use Rattle.of_require.specs.Decisions.{decides as decides_by};
 
 use crate::requirement::{Demand, Quantifier, Requirement};
 use of_headers::read_inside;

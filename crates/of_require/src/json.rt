@@ -1,7 +1,7 @@
 //! The report on requirements as JSON.
 ghost use Rattle.std.specs.Prelude.{◌≡◌, ◌++◌, IfOk, OnOk};
-ghost use Rattle.of_require.specs.Answers.{may_match as may_match_so};
 ghost use Rattle.of_require.specs.RequirementsJson.{answer_object, line_members, requirement_verdict_members, requirements_member, shown_members, verdict_name as name_of_verdict};
+ghost use Rattle.of_require.specs.Answers.{may_match as may_match_so};
 
 use crate::answers::Answer;
 use crate::deciding::{Decision, Verdict};

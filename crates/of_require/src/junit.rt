@@ -1,8 +1,6 @@
 //! The report on requirements as XML, as JUnit writes the results of tests.
-ghost use Rattle.std.specs.Prelude.{◌≡◌, ◌++◌, IfOk, OnOk};
-ghost use Rattle.std.specs.List.{flat_map};
-ghost use Rattle.of_require.specs.JUnit.{outcome_element, requirements_junit, test_case, xml_character};
-ghost use Rattle.of_require.specs.Words.{why_decided};
+ghost use Rattle.std.specs.{Prelude.◌≡◌, Prelude.◌++◌, Prelude.IfOk, Prelude.OnOk, List.flat_map};
+ghost use Rattle.of_require.specs.{JUnit.outcome_element, JUnit.requirements_junit, JUnit.test_case, JUnit.xml_character, Words.why_decided};
 
 use crate::answers::{Answer, count};
 use crate::deciding::{Decision, Verdict};

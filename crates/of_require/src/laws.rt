@@ -1,8 +1,7 @@
 //! What is found about a requirement is what it says.
 ghost use Rattle.std.specs.Prelude.{ℕ};
 ghost use Rattle.of_machine.specs.TheWorld.{TheWorld};
-ghost use Rattle.of_require.specs.declared.deciding.Decision.{Decision as ADecision};
-ghost use Rattle.of_require.specs.declared.requirement.Requirement.{Requirement as ARequirement};
+ghost use Rattle.of_require.specs.{declared.deciding.Decision.Decision as ADecision, declared.requirement.Requirement.Requirement as ARequirement};
 ghost use Rattle.of_require.specs.Decisions.{IsDecision, IsRight, verdict_by};
 
 /// The verdict on a requirement is right: if it holds, the switch meets it, for all frames; if it fails, the switch does not.

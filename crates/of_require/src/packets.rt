@@ -1,11 +1,8 @@
 //! Frames that make packets have some fields, or lack them, when they leave.
 ghost use Rattle.std.specs.Prelude.{◌≡◌, IfNone, IfOk, IfSome, OnOk};
 ghost use Rattle.of_regions.specs.Conditions.{AreConditions};
-ghost use Rattle.of_datapath.specs.Datapath.{world_of};
-ghost use Rattle.of_datapath.specs.Numbers.{forwarding_of};
-ghost use Rattle.of_symbolic.specs.Parts.{AreListsOfConditions};
-ghost use Rattle.of_symbolic.specs.Pulling.{AsksConditions};
-ghost use Rattle.of_symbolic.specs.declared.pulling.Pulled.TheVariants.{Unknown};
+ghost use Rattle.of_datapath.specs.{Datapath.world_of, Numbers.forwarding_of};
+ghost use Rattle.of_symbolic.specs.{Parts.AreListsOfConditions, Pulling.AsksConditions, declared.pulling.Pulled.TheVariants.Unknown};
 ghost use Rattle.of_require.specs.Deciding.{AreDivided, AreDividedByAll, IsSoughtInPath, IsSoughtInSet, IsSoughtInSets};
 ghost use Rattle.of_require.specs.Packets.{AreAsked, IsAskedBy, IsUnknownPacket, SomeUnknown, packet_actions as rewrites_in};
 

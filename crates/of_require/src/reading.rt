@@ -1,11 +1,10 @@
 //! Requirements in words.
 ghost use Rattle.std.specs.Prelude.{◌≡◌, ◌≤◌, ◌<◌, length, codes, IfErr, IfOk, Ok};
 ghost use Rattle.of_require.specs.Reading.{behind_expected as behind_expected_word, behind_word, by_said, demand_said, end_said, ending_said, exits_in as exits_in_words, fields_worded as fields_in_words, frames_said, having_said, is_blank as is_blank_text, is_demand_word, leaving_said, match_refused, match_said, passing_said, place_named, places_in as places_in_words, quantifier_named, requirement_said, table_named, unspaced as unspaced_text, view_demand, view_requirement, first_word_in};
-ghost use Rattle.of_require.specs.Reading.SaidDemand.{LeavesBy, LeavesOnlyBy};
+ghost use Rattle.of_require.specs.{Reading.SaidDemand.LeavesBy, Reading.SaidDemand.LeavesOnlyBy, Refusals.LineStops};
 ghost use Rattle.of_regions.specs.Conditions.{AreConditions};
 ghost use Rattle.of_frame_words.specs.Conditions.{conditions_in_words};
 ghost use Rattle.of_ovs_words.specs.Outcomes.{numbered as numbered_in};
-ghost use Rattle.of_require.specs.Refusals.{LineStops};
 
 use crate::doing::names_nothing;
 use crate::refusal::{NoRequirement, Refusal, Why, refuse};

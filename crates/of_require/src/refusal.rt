@@ -1,7 +1,6 @@
 //! Why a line is no requirement.
 ghost use Rattle.std.specs.Prelude.{◌≡◌};
-ghost use Rattle.of_require.specs.declared.refusal.NoRequirement.TheVariants.{NoMemory};
-ghost use Rattle.of_require.specs.Refusals.{IsLineRefusal};
+ghost use Rattle.of_require.specs.{declared.refusal.NoRequirement.TheVariants.NoMemory, Refusals.IsLineRefusal};
 
 use std::alloc::{AllocError, Global};
 use thiserror::Error;

@@ -1,32 +1,17 @@
 -- The layers of frames after calls, and where they begin.
 use Rattle.std.proofs.Common.{◌≡◌, ℕ, suc, ◌+◌, ◌-◌, ◌*◌, ◌/◌, ◌≤◌, Bool, true, false, cond, List, [], ◌∷◌, ◌++◌, length, take, drop, Option, Some, None, refl, sym, ap, subst, ◌∙◌, arith}
 use Rattle.std.specs.Prelude.{nat_le, IsTrue}
-use Rattle.of_layers.specs.declared.field.Field.{Field}
-use Rattle.of_layers.specs.declared.place.Place.{Place}
-use Rattle.of_layers.specs.Fields.{number_of, is_settable}
-use Rattle.of_layers.specs.Layers.{Layers, cells, ttl}
-use Rattle.of_layers.specs.Looking.{locate}
-use Rattle.of_layers.specs.Reading.{layers_of, is_tag_type}
-use Rattle.of_layers.specs.WellFormed.{AreBytes}
-use Rattle.of_layers.proofs.EncodingLemmas.{AreBytes-take, AreBytes-drop}
-use Rattle.of_headers.specs.declared.layout.Layout.{Layout}
-use Rattle.of_headers.specs.declared.known.Known.{Known}
-use Rattle.of_headers.specs.declared.known.Known.TheVariants.{Nothing, Places, Fields}
-use Rattle.of_headers.specs.Known.{IsKnownOf}
-use Rattle.of_headers.specs.Places.{layout_of}
+use Rattle.of_layers.specs.{declared.field.Field.Field, declared.place.Place.Place, Fields.number_of, Fields.is_settable, Layers.Layers, Layers.cells, Layers.ttl, Looking.locate}
+use Rattle.of_layers.{specs.Reading.layers_of, specs.Reading.is_tag_type, specs.WellFormed.AreBytes, proofs.EncodingLemmas.AreBytes-take, proofs.EncodingLemmas.AreBytes-drop}
+use Rattle.of_headers.specs.{declared.layout.Layout.Layout, declared.known.Known.Known}
+use Rattle.of_headers.specs.{declared.known.Known.TheVariants.Nothing, declared.known.Known.TheVariants.Places, declared.known.Known.TheVariants.Fields, Known.IsKnownOf, Places.layout_of}
 use Rattle.of_headers.specs.Tags.{inner_tags}
 use Rattle.of_rewrite.specs.Frames.{IsFrame, frame_set, frame_pushed, frame_popped, frame_ttl, frame_ttl_decremented}
-use Rattle.of_rewrite.specs.Loans.{lent, with_bytes_at, is_whole_bytes, bytes_at}
 use Rattle.of_rewrite.specs.Calls.{FrameCall, PushVlan, PopVlan, Set, SetTtl, DecTtl, Lend, IsAllowed, frame_after, places_after, with_places, known_after, AreAllowed, frame_after_all, known_after_all}
-use Rattle.of_rewrite.specs.Replaced.{layers_set}
-use Rattle.of_rewrite.specs.Tagging.{has_tag}
-use Rattle.of_rewrite.specs.TimeToLive.{ttl_of, layers_ttl_decremented}
 use Rattle.of_rewrite.proofs.Framing.{set_frame, ttl_frame, aged_frame, pushed_frame, popped_frame}
-use Rattle.of_rewrite.proofs.KeptPlaces.{layout_set}
 use Rattle.of_rewrite.proofs.Layering.{layers_after_set, layers_after_ttl, layers_after_decrement, layers_after_push, layers_after_pop}
-use Rattle.of_rewrite.proofs.Lending.{length_with}
-use Rattle.of_rewrite.proofs.TagFrames.{bytes_append, none_popped}
-use Rattle.of_rewrite.proofs.Unset.{place_inside}
+use Rattle.of_rewrite.specs.{Loans.lent, Loans.with_bytes_at, Loans.is_whole_bytes, Loans.bytes_at, Replaced.layers_set, Tagging.has_tag, TimeToLive.ttl_of, TimeToLive.layers_ttl_decremented}
+use Rattle.of_rewrite.proofs.{KeptPlaces.layout_set, Lending.length_with, TagFrames.bytes_append, TagFrames.none_popped, Unset.place_inside}
 
 -- ---- where the layers begin once a number is replaced
 

@@ -1,8 +1,6 @@
 -- Changes of words add up, and keep a checksum right.
 use Rattle.std.proofs.Common.{◌≡◌, ℕ, suc, ◌+◌, ◌-◌, ◌*◌, ◌%◌, ◌<◌, ◌≤◌, ◌⊎◌, inl, inr, Bool, true, false, cond, List, [], ◌∷◌, ◌++◌, length, sum, refl, sym, ap, ◌∙◌, arith, zero-add, eq-eqb}
-use Rattle.std.specs.Prelude.{◌==◌, not, ◌||◌}
-use Rattle.std.proofs.lemmas.Bool.{cases_eq, ne_eqb}
-use Rattle.std.proofs.lemmas.List.Sums.{sum_by-cons}
+use Rattle.std.{specs.Prelude.◌==◌, specs.Prelude.not, specs.Prelude.◌||◌, proofs.lemmas.Bool.cases_eq, proofs.lemmas.Bool.ne_eqb, proofs.lemmas.List.Sums.sum_by-cons}
 use Rattle.of_rewrite.specs.Checksum.{fold, change, differ, updated, AreWords}
 use Rattle.of_rewrite.proofs.Folding.{fold_is, fold_small}
 

@@ -1,10 +1,8 @@
 -- The words that checksums cover, in the bits of a frame.
 use Rattle.std.specs.Prelude.{ℕ, ◌*◌, true, false, List, ◌++◌, drop}
-use Rattle.of_headers.specs.declared.layout.Layout.{Layout}
-use Rattle.of_headers.specs.declared.layout.Network.{Network}
+use Rattle.of_headers.specs.{declared.layout.Layout.Layout, declared.layout.Network.Network}
 use Rattle.of_headers.specs.declared.layout.Network.TheVariants.{Plain, Arp, Ipv4, Ipv6}
-use Rattle.of_rewrite.specs.declared.sums.Span.{Span}
-use Rattle.of_rewrite.specs.Checksum.{words_of, updated, carried_updated}
+use Rattle.of_rewrite.specs.{declared.sums.Span.Span, Checksum.words_of, Checksum.updated, Checksum.carried_updated}
 use Rattle.of_rewrite.specs.Renewal.{packet_at, header_span, address_span, carried_span}
 
 -- a span's words in the bits of a frame

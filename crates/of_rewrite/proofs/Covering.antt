@@ -1,25 +1,16 @@
 -- The words that a checksum covers are those of its parts of the layers.
 use Rattle.std.proofs.Common.{◌≡◌, ℕ, zero, suc, ◌+◌, ◌*◌, ◌/◌, ◌%◌, Bool, true, false, cond, List, [], ◌∷◌, ◌++◌, length, take, drop, refl, sym, ap, ◌∙◌, arith, append_assoc, slice_index}
-use Rattle.std.specs.Prelude.{◌==◌, ◌||◌, not, nat_lt}
-use Rattle.std.proofs.lemmas.List.{length-append, take-append-drop}
-use Rattle.of_layers.specs.declared.transport.Transport.{Transport}
-use Rattle.of_layers.specs.declared.transport.Transport.TheVariants.{Nothing}
-use Rattle.of_layers.specs.Fields.{row_of}
+use Rattle.std.{specs.Prelude.◌==◌, specs.Prelude.◌||◌, specs.Prelude.not, specs.Prelude.nat_lt, proofs.lemmas.List.length-append, proofs.lemmas.List.take-append-drop}
 use Rattle.of_layers.specs.Layers.{Item, Cell, plain, Layers, Carried, Extension, Options, Fragment, Body, Plain, Arp, Ipv4, Ipv6, cells_in, byte_cells, inner_cells, tag_cells, extension_cells, cells, encoded, addresses, outer_tag, inner_tag, ether_type, ipv4, ipv6, options, fragment, items_of, size_of, all_bytes, next_before, header_checksum, checksum}
-use Rattle.of_layers.specs.WellFormed.{FitsItems, IsIpv4, IsIpv6, IsLayers}
-use Rattle.of_layers.proofs.EncodingLemmas.{encoded-append}
-use Rattle.of_headers.specs.Places.{width, network_of, layout_of}
-use Rattle.of_headers.proofs.LocateLemmas.{width-append, width_bytes}
-use Rattle.of_layers.specs.Looking.{name_is}
-use Rattle.of_headers.specs.declared.layout.Layout.{Layout}
-use Rattle.of_rewrite.specs.declared.sums.Span.{Span}
-use Rattle.of_rewrite.specs.Checksum.{words_of, updated}
+use Rattle.of_layers.specs.{declared.transport.Transport.Transport, declared.transport.Transport.TheVariants.Nothing, Fields.row_of}
+use Rattle.of_layers.{specs.WellFormed.FitsItems, specs.WellFormed.IsIpv4, specs.WellFormed.IsIpv6, specs.WellFormed.IsLayers, specs.Looking.name_is, proofs.EncodingLemmas.encoded-append}
+use Rattle.of_headers.{specs.Places.width, specs.Places.network_of, specs.Places.layout_of, specs.declared.layout.Layout.Layout, proofs.LocateLemmas.width-append, proofs.LocateLemmas.width_bytes}
 use Rattle.of_rewrite.specs.Rewriting.{change_at, replace_at, number_set, checksum_rule, words, without_addresses, header_cover, address_cover, carried_cover}
-use Rattle.of_rewrite.specs.Renewal.{packet_at, header_span, address_span, carried_span}
-use Rattle.of_rewrite.proofs.CoveredWords.{words_in, header_words, carried_words, carried_rule}
 use Rattle.of_rewrite.proofs.Structure.{wide, tags_part, Chained, chained, items_total, ipv6_total}
-use Rattle.of_rewrite.proofs.Standing.{own_header, no_header, length_encoded, size_even}
 use Rattle.of_rewrite.proofs.Parts.{part_words, All, apart_by, all_append, all_bytes as all_byte_cells, passes, all_in}
+use Rattle.of_rewrite.specs.{declared.sums.Span.Span, Checksum.words_of, Checksum.updated, Renewal.packet_at, Renewal.header_span, Renewal.address_span, Renewal.carried_span}
+use Rattle.of_rewrite.proofs.CoveredWords.{words_in, header_words, carried_words, carried_rule}
+use Rattle.of_rewrite.proofs.Standing.{own_header, no_header, length_encoded, size_even}
 
 -- ---- parts of a format
 

@@ -1,17 +1,10 @@
 -- Numbers among cells: where they are encoded, and what becomes of the encoding where one changes.
 use Rattle.std.proofs.Common.{◌≡◌, ℕ, ◌+◌, ◌*◌, ◌/◌, ◌%◌, ◌^◌, ◌<◌, ◌≤◌, ◌≢◌, inl, inr, true, false, cond, List, [], ◌∷◌, ◌++◌, length, take, drop, set, Option, Some, None, refl, sym, ap, ◌∙◌, arith, append_assoc}
-use Rattle.std.proofs.lemmas.Bool.{cases_eq, cases_lt, ne_eqb, eqb-true}
 use Rattle.std.proofs.lemmas.List.{length-append, length-take-le, get_or-set_same, get_or-set_other, set_past}
-use Rattle.of_layers.specs.declared.place.Place.{Place}
-use Rattle.of_layers.specs.Bits.{bits, bits_of}
-use Rattle.of_layers.specs.Layers.{Cell, encoded}
-use Rattle.of_layers.specs.Looking.{name_is, look_up, locate_at}
-use Rattle.of_layers.specs.Reading.{word}
-use Rattle.of_layers.specs.WellFormed.{AreBytes}
+use Rattle.std.proofs.lemmas.Bool.{cases_eq, cases_lt, ne_eqb, eqb-true}
+use Rattle.of_layers.specs.{declared.place.Place.Place, Bits.bits, Bits.bits_of, Layers.Cell, Layers.encoded, Looking.name_is, Looking.look_up, Looking.locate_at, Reading.word, WellFormed.AreBytes}
 use Rattle.of_layers.proofs.BitLemmas.{length-bits, length-bits_of, bits_front, append_same}
-use Rattle.of_rewrite.specs.Rewriting.{change_at}
-use Rattle.of_rewrite.specs.Spans.{over_bits, with_word}
-use Rattle.of_rewrite.proofs.Putting.{put_after, word_bits_of, frame_parts}
+use Rattle.of_rewrite.{specs.Rewriting.change_at, specs.Spans.over_bits, specs.Spans.with_word, proofs.Putting.put_after, proofs.Putting.word_bits_of, proofs.Putting.frame_parts}
 
 -- each number is within its bits
 abbrev pub Sound : List Cell → Type 0

@@ -1,7 +1,6 @@
 -- Adding the carries keeps a sum, but for multiples of 65535.
 use Rattle.std.proofs.Common.{◌≡◌, ℕ, ◌+◌, ◌-◌, ◌/◌, ◌%◌, ◌<◌, ◌≤◌, false, refl, sym, ◌∙◌, arith, inl, inr}
-use Rattle.std.specs.Prelude.{◌==◌}
-use Rattle.std.proofs.lemmas.Bool.{cases_eq, ne_eqb}
+use Rattle.std.{specs.Prelude.◌==◌, proofs.lemmas.Bool.cases_eq, proofs.lemmas.Bool.ne_eqb}
 use Rattle.of_rewrite.specs.Checksum.{fold}
 
 -- fold at a number above 0

@@ -2,14 +2,11 @@
 use Rattle.std.proofs.Common.{◌≡◌, ℕ, zero, suc, ◌+◌, ◌-◌, ◌*◌, ◌/◌, ◌%◌, ◌<◌, ◌≤◌, ◌≢◌, ◌⊎◌, inl, inr, Bool, true, false, cond, List, [], ◌∷◌, ◌++◌, length, get_or, set, refl, sym, ap, ◌∙◌, arith, zero-add}
 use Rattle.std.specs.Prelude.{◌==◌, not, ◌||◌, ◌&&◌, nat_le, nat_lt}
 use Rattle.std.proofs.lemmas.Bool.{cases_eq, cases_lt, le-leb, lt-leb, lt-ltb, le-ltb}
-use Rattle.std.proofs.lemmas.List.{get_or-set_same, get_or-set_other}
-use Rattle.std.proofs.Math.ListN.{length-set}
+use Rattle.std.proofs.{lemmas.List.get_or-set_same, lemmas.List.get_or-set_other, Math.ListN.length-set}
 use Rattle.of_layers.specs.Reading.{word}
-use Rattle.of_rewrite.specs.declared.sums.Sum.{Sum}
-use Rattle.of_rewrite.specs.Checksum.{fold, change, differ, updated}
 use Rattle.of_rewrite.specs.Spans.{words_at, span_words, followed, stepped_sum, with_word}
-use Rattle.of_rewrite.proofs.Folding.{fold_small}
 use Rattle.of_rewrite.proofs.Changes.{same_word, change_none, differ_none, or_false, change_append, differ_append, renewed_then}
+use Rattle.of_rewrite.{specs.declared.sums.Sum.Sum, specs.Checksum.fold, specs.Checksum.change, specs.Checksum.differ, specs.Checksum.updated, proofs.Folding.fold_small}
 
 -- ---- one word written
 

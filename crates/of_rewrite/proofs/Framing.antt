@@ -1,27 +1,15 @@
 -- The bytes that cells encode, and how many there are.
 use Rattle.std.proofs.Common.{◌≡◌, ℕ, zero, suc, ◌+◌, ◌-◌, ◌*◌, ◌/◌, ◌^◌, ◌<◌, ◌≤◌, Bool, true, false, cond, List, [], ◌∷◌, ◌++◌, length, take, drop, get_or, Option, Some, None, refl, sym, ap, ◌∙◌, arith, inl, inr}
-use Rattle.std.specs.Prelude.{nat_le}
-use Rattle.std.proofs.lemmas.Bool.{cases_lt, le-leb, lt-leb}
 use Rattle.std.proofs.lemmas.List.{take_at, drop_at, length-take, get_or-take, get_or-drop, get_or_past}
+use Rattle.std.{specs.Prelude.nat_le, proofs.lemmas.Bool.cases_lt, proofs.lemmas.Bool.le-leb, proofs.lemmas.Bool.lt-leb}
 use Rattle.std.proofs.Math.Nat.{mod-eq_of_lt, pow-suc, pow-le-pow_right}
-use Rattle.of_layers.specs.declared.field.Field.{Field}
-use Rattle.of_layers.specs.Fields.{number_of}
-use Rattle.of_layers.specs.Bits.{bits, bits_of}
 use Rattle.of_layers.specs.Layers.{Cell, Layers, cells, encoded, cells_in, inner_cells, tag_cells, body_cells, addresses, outer_tag, inner_tag, ether_type, ttl}
-use Rattle.of_layers.specs.Reading.{layers_of}
-use Rattle.of_layers.specs.WellFormed.{AreBytes}
-use Rattle.of_layers.proofs.BitLemmas.{length-bits, length-bits_of}
-use Rattle.of_layers.proofs.FrameLemmas.{frame_encoded}
-use Rattle.of_headers.specs.Places.{width}
-use Rattle.of_headers.proofs.LocateLemmas.{width-append}
-use Rattle.of_rewrite.specs.Checksum.{number_of_bits}
-use Rattle.of_rewrite.specs.Rewriting.{number_set, field_set}
-use Rattle.of_headers.specs.Tags.{tag_before, pushed, inner_tags, popped}
-use Rattle.of_rewrite.specs.TimeToLive.{ttl_of, ttl_decremented_from}
+use Rattle.of_layers.specs.{declared.field.Field.Field, Fields.number_of, Bits.bits, Bits.bits_of, Reading.layers_of, WellFormed.AreBytes}
+use Rattle.of_layers.proofs.{BitLemmas.length-bits, BitLemmas.length-bits_of, FrameLemmas.frame_encoded}
+use Rattle.of_headers.{specs.Places.width, specs.Tags.tag_before, specs.Tags.pushed, specs.Tags.inner_tags, specs.Tags.popped, proofs.LocateLemmas.width-append}
 use Rattle.of_rewrite.specs.Frames.{IsFrame, octets_of, bytes_in, frame_set, frame_pushed, frame_popped, frame_ttl, frame_ttl_decremented}
-use Rattle.of_rewrite.proofs.Parts.{length_changed}
-use Rattle.of_rewrite.proofs.Renewing.{number-bits}
-use Rattle.of_rewrite.proofs.Standing.{length_encoded}
+use Rattle.of_rewrite.specs.{Checksum.number_of_bits, Rewriting.number_set, Rewriting.field_set, TimeToLive.ttl_of, TimeToLive.ttl_decremented_from}
+use Rattle.of_rewrite.proofs.{Parts.length_changed, Renewing.number-bits, Standing.length_encoded}
 
 -- ---- bytes back from their bits
 

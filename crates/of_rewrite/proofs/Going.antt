@@ -1,16 +1,10 @@
 -- A number is written piece by piece, and checksums follow.
 use Rattle.std.proofs.Common.{◌≡◌, ℕ, zero, suc, ◌+◌, ◌-◌, ◌*◌, ◌/◌, ◌%◌, ◌^◌, ◌<◌, ◌≤◌, ◌≢◌, ◌⊎◌, inl, inr, Bool, List, [], ◌∷◌, ◌++◌, length, take, drop, refl, sym, ap, ◌∙◌, arith}
-use Rattle.std.specs.Prelude.{min, ◌||◌}
-use Rattle.std.proofs.lemmas.Bool.{cases_eq}
-use Rattle.std.proofs.lemmas.List.{take-append-drop}
-use Rattle.of_layers.specs.Bits.{bits, bits_of}
-use Rattle.of_layers.specs.Reading.{word}
-use Rattle.of_layers.proofs.BitLemmas.{length-bits_of}
-use Rattle.of_rewrite.specs.declared.sums.Sum.{Sum}
-use Rattle.of_rewrite.specs.declared.sums.Sums.{Sums}
-use Rattle.of_rewrite.specs.Checksum.{fold, change, differ, updated}
+use Rattle.std.{specs.Prelude.min, specs.Prelude.◌||◌, proofs.lemmas.Bool.cases_eq, proofs.lemmas.List.take-append-drop}
+use Rattle.of_layers.{specs.Bits.bits, specs.Bits.bits_of, specs.Reading.word, proofs.BitLemmas.length-bits_of}
 use Rattle.of_rewrite.specs.Spans.{over_bits, words_at, span_words, covered_words, followed, both_followed, AreEven, IsEven}
 use Rattle.of_rewrite.proofs.Changes.{Apart, change_over, renewed_then, renewed_same, differ_none, or_false, or_right}
+use Rattle.of_rewrite.specs.{declared.sums.Sum.Sum, declared.sums.Sums.Sums, Checksum.fold, Checksum.change, Checksum.differ, Checksum.updated}
 use Rattle.of_rewrite.proofs.Putting.{put_parts, bits_lower}
 
 -- each word of even place changes in one of two steps at most

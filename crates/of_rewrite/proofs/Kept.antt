@@ -1,12 +1,8 @@
 -- Where a number is replaced the layering stays.
 use Rattle.std.proofs.Common.{◌≡◌, ◌≢◌, ℕ, ◌%◌, ◌^◌, Bool, true, false, cond, List, [], ◌∷◌, ◌++◌, refl, sym, ap, ◌∙◌, append_assoc}
-use Rattle.std.specs.Prelude.{◌==◌, ◌||◌, not, nat_lt}
-use Rattle.std.proofs.lemmas.Bool.{ne_eqb, eqb-true}
-use Rattle.of_layers.specs.declared.transport.Transport.{Transport}
-use Rattle.of_layers.specs.declared.transport.Transport.TheVariants.{Nothing}
-use Rattle.of_layers.specs.Fields.{row_of}
+use Rattle.std.{specs.Prelude.◌==◌, specs.Prelude.◌||◌, specs.Prelude.not, specs.Prelude.nat_lt, proofs.lemmas.Bool.ne_eqb, proofs.lemmas.Bool.eqb-true}
 use Rattle.of_layers.specs.Layers.{Item, Cell, Layers, Carried, Extension, Options, Fragment, Body, Plain, Arp, Ipv4, Ipv6, cells_in, byte_cells, inner_cells, tag_cells, extension_cells, carried_cells, body_cells, cells, addresses, outer_tag, ether_type, arp, ipv4, ipv6, options, fragment, items_of, next_before}
-use Rattle.of_layers.specs.Looking.{name_is}
+use Rattle.of_layers.specs.{declared.transport.Transport.Transport, declared.transport.Transport.TheVariants.Nothing, Fields.row_of, Looking.name_is}
 use Rattle.of_rewrite.specs.Replaced.{numbers_with, tags_with, carried_with, body_with, layers_with}
 use Rattle.of_rewrite.proofs.Parts.{has, All, all_has, apart_by, all_append, all_bytes as all_byte_cells, all_in, passes}
 use Rattle.of_rewrite.proofs.Covering.{outside, no_carried, front_outside, all_inner, all_tags, extensions_pass, ipv6_pass, items_carried}

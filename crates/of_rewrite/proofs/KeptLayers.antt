@@ -1,28 +1,15 @@
 -- Layers where a number is replaced are well formed, and they are those of the new frame.
 use Rattle.std.proofs.Common.{◌≡◌, ◌≢◌, ℕ, zero, suc, ◌+◌, ◌*◌, ◌%◌, ◌^◌, ◌<◌, ◌≤◌, true, false, cond, List, [], ◌∷◌, ◌++◌, length, get_or, Option, None, refl, sym, ap, ◌∙◌, arith, subst}
-use Rattle.std.specs.Prelude.{min}
-use Rattle.std.proofs.lemmas.Bool.{ne_eqb}
-use Rattle.std.proofs.lemmas.Nat.{mod_below, pow_pos}
-use Rattle.std.proofs.Math.Nat.{mod-eq_of_lt}
-use Rattle.of_layers.specs.Bits.{bits_of}
-use Rattle.of_layers.specs.declared.field.Field.{Field}
-use Rattle.of_layers.specs.declared.field.Field.TheVariants.{EthType, IpProto}
-use Rattle.of_layers.specs.Fields.{row_of, number_of, is_settable}
+use Rattle.std.{specs.Prelude.min, proofs.lemmas.Bool.ne_eqb, proofs.lemmas.Nat.mod_below, proofs.lemmas.Nat.pow_pos, proofs.Math.Nat.mod-eq_of_lt}
 use Rattle.of_layers.specs.Layers.{Item, Cell, Layers, Carried, Extension, Options, Fragment, Body, Plain, Arp, Ipv4, Ipv6, all_bytes, body_cells, cells, encoded, addresses, outer_tag, inner_tag, arp, ipv4, ipv6, items_of, next_before, ttl}
-use Rattle.of_layers.specs.Looking.{name_is}
-use Rattle.of_layers.specs.Reading.{is_tag_type, kind_behind, over_ipv4, layers_of}
 use Rattle.of_layers.specs.WellFormed.{AreBytes, FitsItems, AreTags, IsCarried, IsArp, IsIpv4, IsIpv6, AreExtensions, IsBody, IsLayers, carried_size}
-use Rattle.of_layers.specs.declared.transport.Transport.{Transport}
-use Rattle.of_layers.proofs.FrameLemmas.{are_layers, only_layers}
+use Rattle.of_layers.specs.{Bits.bits_of, declared.field.Field.Field, declared.field.Field.TheVariants.EthType, declared.field.Field.TheVariants.IpProto}
+use Rattle.of_layers.specs.{Fields.row_of, Fields.number_of, Fields.is_settable, Looking.name_is, Reading.is_tag_type, Reading.kind_behind, Reading.over_ipv4, Reading.layers_of}
+use Rattle.of_layers.{specs.declared.transport.Transport.Transport, proofs.FrameLemmas.are_layers, proofs.FrameLemmas.only_layers}
 use Rattle.of_headers.specs.Places.{width}
-use Rattle.of_rewrite.specs.Rewriting.{change_at, number_set, header_updated, carried_after}
 use Rattle.of_rewrite.specs.Replaced.{Replaceable, LeavesLayers, numbers_with, tags_with, carried_with, body_with, layers_with, layers_set}
-use Rattle.of_rewrite.proofs.Finding.{Sound, names_apart}
-use Rattle.of_rewrite.proofs.Kept.{cut_at, cut_body, cut_layers}
-use Rattle.of_rewrite.proofs.Putting.{bits_low}
-use Rattle.of_rewrite.proofs.Standing.{length_encoded}
-use Rattle.of_rewrite.proofs.Structure.{outer_fits}
-use Rattle.of_rewrite.proofs.Unset.{frame_stands}
+use Rattle.of_rewrite.{specs.Rewriting.change_at, specs.Rewriting.number_set, specs.Rewriting.header_updated, specs.Rewriting.carried_after, proofs.Finding.Sound, proofs.Finding.names_apart}
+use Rattle.of_rewrite.proofs.{Kept.cut_at, Kept.cut_body, Kept.cut_layers, Putting.bits_low, Standing.length_encoded, Structure.outer_fits, Unset.frame_stands}
 
 -- ---- numbers of a header
 

@@ -1,16 +1,11 @@
 -- Where the layers of a frame begin stays where a number is replaced.
 use Rattle.std.proofs.Common.{◌≡◌, ℕ, ◌+◌, ◌-◌, ◌*◌, ◌^◌, ◌<◌, ◌≤◌, List, [], ◌∷◌, ◌++◌, length, take, drop, Option, Some, None, refl, sym, ap, subst, ◌∙◌, arith, true, false, cond}
-use Rattle.std.specs.Prelude.{nat_le}
-use Rattle.std.proofs.lemmas.List.{append-nil, take_all, drop_all}
+use Rattle.std.{specs.Prelude.nat_le, proofs.lemmas.List.append-nil, proofs.lemmas.List.take_all, proofs.lemmas.List.drop_all}
 use Rattle.of_layers.specs.Layers.{Layers, Body, Plain, Arp, Ipv4, Ipv6, header_checksum, checksum, ttl}
-use Rattle.of_layers.specs.Reading.{layers_of}
-use Rattle.of_headers.specs.declared.layout.Layout.{Layout}
-use Rattle.of_headers.specs.Places.{network_of, layout_of}
-use Rattle.of_rewrite.specs.Rewriting.{header_updated, carried_after}
-use Rattle.of_rewrite.specs.Replaced.{tags_with, body_with, layers_with, layers_set}
-use Rattle.of_layers.specs.WellFormed.{AreBytes}
+use Rattle.of_layers.specs.{Reading.layers_of, WellFormed.AreBytes}
+use Rattle.of_headers.specs.{declared.layout.Layout.Layout, Places.network_of, Places.layout_of}
+use Rattle.of_rewrite.specs.{Rewriting.header_updated, Rewriting.carried_after, Replaced.tags_with, Replaced.body_with, Replaced.layers_with, Replaced.layers_set, TimeToLive.layers_ttl_decremented}
 use Rattle.of_rewrite.proofs.Unset.{packet_below}
-use Rattle.of_rewrite.specs.TimeToLive.{layers_ttl_decremented}
 
 tags_same : (n : ℕ) (f : ℕ → ℕ) (ts : List (List ℕ)) → length (tags_with n f ts) ≡ length ts
 tags_same n f [] = refl

@@ -1,29 +1,16 @@
 -- The layers of a frame after an action.
 use Rattle.std.proofs.Common.{◌≡◌, ℕ, zero, suc, ◌+◌, ◌-◌, ◌*◌, ◌/◌, ◌%◌, ◌^◌, ◌<◌, true, false, cond, List, [], ◌∷◌, ◌++◌, length, take, drop, Option, Some, None, refl, sym, ap, ◌∙◌, arith}
-use Rattle.std.specs.Prelude.{IsTrue, nat_le}
-use Rattle.std.proofs.lemmas.Bool.Decides.{nat_tests}
+use Rattle.std.{specs.Prelude.IsTrue, specs.Prelude.nat_le, proofs.lemmas.Bool.Decides.nat_tests}
 use Rattle.std.proofs.lemmas.List.{take-append-drop, length-take-le, length-drop}
-use Rattle.of_layers.specs.Bits.{bits, bits_of}
-use Rattle.of_layers.specs.declared.field.Field.{Field}
-use Rattle.of_layers.specs.Fields.{number_of, is_settable}
-use Rattle.of_layers.specs.Layers.{Cell, cells, encoded, ttl}
-use Rattle.of_layers.specs.Reading.{is_tag_type, layers_of}
-use Rattle.of_layers.specs.WellFormed.{AreBytes}
-use Rattle.of_layers.proofs.BitLemmas.{bits_parts}
-use Rattle.of_layers.proofs.FrameLemmas.{frame_encoded}
-use Rattle.of_headers.specs.Places.{width}
-use Rattle.of_headers.specs.Tags.{pushed, popped}
-use Rattle.of_rewrite.specs.Checksum.{number_of_bits}
+use Rattle.of_layers.specs.{Bits.bits, Bits.bits_of, declared.field.Field.Field, Fields.number_of, Fields.is_settable, Layers.Cell, Layers.cells, Layers.encoded, Layers.ttl}
+use Rattle.of_layers.{specs.Reading.is_tag_type, specs.Reading.layers_of, specs.WellFormed.AreBytes, proofs.BitLemmas.bits_parts, proofs.FrameLemmas.frame_encoded}
+use Rattle.of_headers.specs.{Places.width, Tags.pushed, Tags.popped}
 use Rattle.of_rewrite.specs.Frames.{IsFrame, octets_of, bytes_in, frame_set, frame_pushed, frame_popped, frame_ttl, frame_ttl_decremented}
-use Rattle.of_rewrite.specs.Replaced.{Replaceable, LeavesLayers, layers_set}
-use Rattle.of_rewrite.specs.Rewriting.{number_set}
-use Rattle.of_rewrite.specs.Tagging.{has_tag, control_in}
-use Rattle.of_rewrite.specs.TimeToLive.{ttl_of, ttl_decremented_from, layers_ttl_decremented}
 use Rattle.of_rewrite.proofs.Framing.{AreBits, bits_take, bits_drop, number_below, encoded_bits, bytes_below, bytes_are, frame_width, width_set}
-use Rattle.of_rewrite.proofs.KeptLayers.{layers_are, leaves, leaves_ttl}
-use Rattle.of_rewrite.proofs.Standing.{length_encoded}
-use Rattle.of_rewrite.proofs.TagFrames.{tag_pushed, tag_popped, none_popped}
 use Rattle.of_rewrite.proofs.TagPut.{tagged, four, push_is, pop_is, untagged_pops}
+use Rattle.of_rewrite.specs.{Checksum.number_of_bits, Replaced.Replaceable, Replaced.LeavesLayers, Replaced.layers_set, Rewriting.number_set, Tagging.has_tag, Tagging.control_in}
+use Rattle.of_rewrite.specs.TimeToLive.{ttl_of, ttl_decremented_from, layers_ttl_decremented}
+use Rattle.of_rewrite.proofs.{KeptLayers.layers_are, KeptLayers.leaves, KeptLayers.leaves_ttl, Standing.length_encoded, TagFrames.tag_pushed, TagFrames.tag_popped, TagFrames.none_popped}
 use Rattle.of_rewrite.proofs.Unset.{replaceable}
 
 -- ---- bits back from their bytes

@@ -1,12 +1,7 @@
 -- Which bytes of a frame are lent, and the frame after a loan.
 use Rattle.std.proofs.Common.{◌≡◌, ◌≢◌, ℕ, ◌+◌, ◌/◌, ◌%◌, ◌≤◌, List, ◌++◌, length, take, drop, Some, None, refl, arith}
-use Rattle.std.proofs.lemmas.Bool.{ne_eqb, eq-eqb}
-use Rattle.std.proofs.lemmas.List.{length-append, length-take-le, length-drop, take_all}
-use Rattle.of_layers.specs.declared.field.Field.{Field}
-use Rattle.of_layers.specs.declared.place.Place.{Place}
-use Rattle.of_layers.specs.Layers.{cells}
-use Rattle.of_layers.specs.Looking.{locate}
-use Rattle.of_layers.specs.Reading.{layers_of}
+use Rattle.std.proofs.{lemmas.Bool.ne_eqb, lemmas.Bool.eq-eqb, lemmas.List.length-append, lemmas.List.length-take-le, lemmas.List.length-drop, lemmas.List.take_all}
+use Rattle.of_layers.specs.{declared.field.Field.Field, declared.place.Place.Place, Layers.cells, Looking.locate, Reading.layers_of}
 use Rattle.of_rewrite.specs.Loans.{lent, with_bytes_at}
 
 pub lent_whole : (f : Field) (s : List ℕ) (p : Place) → locate f (cells (layers_of s)) ≡ Some p → p.first % 8 ≡ 0 → p.bits % 8 ≡ 0 → (p.first / 8, (p.first + p.bits) / 8) ≡ lent f s

@@ -1,23 +1,14 @@
 -- What is found by its name among the cells of a frame where a number is replaced, or the tags are.
 use Rattle.std.proofs.Common.{◌≡◌, ◌≢◌, ℕ, ◌%◌, ◌^◌, ◌<◌, true, false, cond, eqb, List, [], ◌∷◌, ◌++◌, Option, Some, None, refl, sym, ap, subst, ◌∙◌, arith}
-use Rattle.std.specs.Prelude.{IsTrue, slice_index}
-use Rattle.std.specs.Option.{option_map, option_or}
-use Rattle.std.proofs.lemmas.Bool.{eq-eqb, eqb-true}
-use Rattle.of_layers.specs.declared.field.Field.{Field}
-use Rattle.of_layers.specs.declared.field.Field.TheVariants.{VlanVid, VlanPcp}
-use Rattle.of_layers.specs.declared.transport.Transport.TheVariants.{Nothing}
-use Rattle.of_layers.specs.Fields.{row_of, number_of, is_settable}
+use Rattle.std.{specs.Prelude.IsTrue, specs.Prelude.slice_index, specs.Option.option_map, specs.Option.option_or, proofs.lemmas.Bool.eq-eqb, proofs.lemmas.Bool.eqb-true}
 use Rattle.of_layers.specs.Layers.{Item, Cell, Layers, Extension, addresses, ether_type, outer_tag, inner_tag, ipv6, options, fragment, items_of, next_before, cells_in, inner_cells, tag_cells, body_cells, cells, ttl}
-use Rattle.of_layers.specs.Looking.{name_is, look_up}
-use Rattle.of_layers.specs.WellFormed.{FitsItems, AreTags, IsLayers}
+use Rattle.of_layers.specs.{declared.field.Field.Field, declared.field.Field.TheVariants.VlanVid, declared.field.Field.TheVariants.VlanPcp, declared.transport.Transport.TheVariants.Nothing}
+use Rattle.of_layers.specs.{Fields.row_of, Fields.number_of, Fields.is_settable, Looking.name_is, Looking.look_up, WellFormed.FitsItems, WellFormed.AreTags, WellFormed.IsLayers}
 use Rattle.of_layers.proofs.Table.{number_below, same_number}
 use Rattle.of_headers.proofs.LookLemmas.{look-append, or_none, lacks, no_name, IsOuter, vid_outer, lacks_body}
-use Rattle.of_rewrite.specs.Replaced.{LeavesLayers, layers_with, layers_set}
-use Rattle.of_rewrite.specs.Rewriting.{header_updated, carried_after}
-use Rattle.of_rewrite.proofs.Finding.{names_apart}
-use Rattle.of_rewrite.proofs.Kept.{cut_at, cut_layers}
-use Rattle.of_rewrite.proofs.KeptLayers.{leaves, leaves_ttl}
 use Rattle.of_rewrite.proofs.Widths.{IsWide, cell_bits, settable_wide, ttl_wide, layers_wide, look_cut}
+use Rattle.of_rewrite.{specs.Replaced.LeavesLayers, specs.Replaced.layers_with, specs.Replaced.layers_set, specs.Rewriting.header_updated, specs.Rewriting.carried_after, proofs.Finding.names_apart}
+use Rattle.of_rewrite.proofs.{Kept.cut_at, Kept.cut_layers, KeptLayers.leaves, KeptLayers.leaves_ttl}
 
 -- ---- a number is replaced
 

@@ -1,12 +1,8 @@
 -- No number of a frame has more than 128 bits.
 use Rattle.std.proofs.Common.{◌≡◌, ℕ, ◌+◌, ◌≤◌, Bool, true, false, cond, List, [], ◌∷◌, ◌++◌, Some, refl, ap, arith}
-use Rattle.std.specs.Prelude.{nat_le, ◌&&◌}
-use Rattle.std.proofs.lemmas.Bool.{leb-true}
-use Rattle.of_layers.specs.declared.place.Place.{Place}
-use Rattle.of_layers.specs.declared.transport.Transport.{Transport}
-use Rattle.of_layers.specs.declared.transport.Transport.TheVariants.{Nothing}
+use Rattle.std.{specs.Prelude.nat_le, specs.Prelude.◌&&◌, proofs.lemmas.Bool.leb-true}
 use Rattle.of_layers.specs.Layers.{Item, Cell, Layers, Carried, Extension, Options, Fragment, Body, Plain, Arp, Ipv4, Ipv6, cells_in, byte_cells, inner_cells, tag_cells, extension_cells, carried_cells, body_cells, cells, addresses, outer_tag, inner_tag, ether_type, arp, ipv4, ipv6, options, fragment, items_of, next_before}
-use Rattle.of_layers.specs.Looking.{name_is, locate_at}
+use Rattle.of_layers.specs.{declared.place.Place.Place, declared.transport.Transport.Transport, declared.transport.Transport.TheVariants.Nothing, Looking.name_is, Looking.locate_at}
 use Rattle.of_layers.proofs.TestLemmas.{and_true}
 
 abbrev Narrow : List Cell → Type 0

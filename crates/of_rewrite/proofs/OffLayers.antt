@@ -1,19 +1,12 @@
 -- Where a number of layers is replaced, checksums that were wrong stay off by as much.
 use Rattle.std.proofs.Common.{◌≡◌, ℕ, ◌+◌, ◌%◌, ◌<◌, Bool, true, false, cond, List, ◌∷◌, ◌++◌, length, sum, Some, ◌⊎◌, inl, inr, refl, sym, ap, ◌∙◌, arith, subst}
-use Rattle.std.specs.Prelude.{◌==◌, ◌&&◌, ◌||◌, not}
-use Rattle.std.proofs.lemmas.Bool.{cases_eq, ne_eqb}
-use Rattle.std.proofs.lemmas.List.{length-append}
-use Rattle.of_layers.specs.declared.transport.Transport.{Transport}
+use Rattle.std.{specs.Prelude.◌==◌, specs.Prelude.◌&&◌, specs.Prelude.◌||◌, specs.Prelude.not, proofs.lemmas.Bool.cases_eq, proofs.lemmas.Bool.ne_eqb, proofs.lemmas.List.length-append}
 use Rattle.of_layers.specs.declared.transport.Transport.TheVariants.{Nothing, Tcp, Udp, Icmpv4, Icmpv6}
-use Rattle.of_layers.specs.Layers.{Cell, cells_in, items_of}
-use Rattle.of_layers.specs.Looking.{look_up}
+use Rattle.of_layers.specs.{declared.transport.Transport.Transport, Layers.Cell, Layers.cells_in, Layers.items_of, Looking.look_up}
 use Rattle.of_rewrite.specs.Checksum.{differ, updated, never_zero, udp_updated, carried_updated, AreWords}
-use Rattle.of_rewrite.specs.Rewriting.{change_at, words}
-use Rattle.of_rewrite.specs.Right.{is_left_out}
-use Rattle.of_rewrite.proofs.Changes.{off_again, without_word}
-use Rattle.of_rewrite.proofs.Kept.{cut_at}
-use Rattle.of_rewrite.proofs.Righting.{sum_mid, differ_same}
 use Rattle.of_rewrite.proofs.RightLayers.{HeaderWords, PacketWords, nothing_carried, never_left_out, sum_more}
+use Rattle.of_rewrite.{specs.Rewriting.change_at, specs.Rewriting.words, specs.Right.is_left_out, proofs.Changes.off_again, proofs.Changes.without_word, proofs.Kept.cut_at}
+use Rattle.of_rewrite.proofs.Righting.{sum_mid, differ_same}
 
 -- ---- sums modulo 65535
 

@@ -1,16 +1,10 @@
 -- The words of a part of a frame's cells, where a number changes.
 use Rattle.std.proofs.Common.{◌≡◌, ℕ, zero, suc, ◌*◌, ◌/◌, ◌≤◌, Bool, true, false, cond, List, [], ◌∷◌, ◌++◌, length, take, drop, Option, Some, None, refl, sym, ap, ◌∙◌, arith}
-use Rattle.std.specs.Prelude.{◌&&◌, ◌||◌, not}
 use Rattle.std.proofs.lemmas.List.{length-append, take-append-le, drop-append-le, length-drop, drop_at, append-nil}
-use Rattle.std.proofs.lemmas.Bool.{eqb-true}
-use Rattle.of_layers.specs.Bits.{bits}
+use Rattle.std.{specs.Prelude.◌&&◌, specs.Prelude.◌||◌, specs.Prelude.not, proofs.lemmas.Bool.eqb-true}
 use Rattle.of_layers.specs.Layers.{Item, Cell, cells_in, byte_cells, encoded}
-use Rattle.of_layers.specs.Looking.{name_is}
-use Rattle.of_layers.proofs.BitLemmas.{length-bits}
-use Rattle.of_layers.proofs.TestLemmas.{and_true}
-use Rattle.of_layers.proofs.EncodingLemmas.{encoded-append}
-use Rattle.of_rewrite.specs.Checksum.{number_of_bits, words_of}
-use Rattle.of_rewrite.specs.Rewriting.{change_at, words}
+use Rattle.of_layers.{specs.Bits.bits, specs.Looking.name_is, proofs.BitLemmas.length-bits, proofs.TestLemmas.and_true, proofs.EncodingLemmas.encoded-append}
+use Rattle.of_rewrite.specs.{Checksum.number_of_bits, Checksum.words_of, Rewriting.change_at, Rewriting.words}
 
 -- ---- whether a cell of a name is there
 

@@ -3,11 +3,8 @@ use Rattle.std.proofs.Common.{◌≡◌, ℕ, ◌+◌, ◌-◌, ◌*◌, ◌/◌
 use Rattle.std.proofs.lemmas.List.{drop_at, length-append, take-append-drop, length-take-le, drop-set, drop-set-add, take-set-le, drop_more, drop-drop}
 use Rattle.std.proofs.lemmas.Nat.{pow_pos, mod_below, shr-shr, shr_below, mul-add-lt, pow-add}
 use Rattle.std.proofs.Math.Seq.{take-append-add, drop-append-add}
-use Rattle.of_layers.specs.Bits.{bits, bits_of}
-use Rattle.of_layers.specs.Reading.{word}
-use Rattle.of_layers.specs.WellFormed.{AreBytes}
 use Rattle.of_layers.proofs.BitLemmas.{length-bits, length-bits_of, bits_of-append, bits_parts, bits_cut, word_bits, append_same}
-use Rattle.of_layers.proofs.EncodingLemmas.{word_from}
+use Rattle.of_layers.{specs.Bits.bits, specs.Bits.bits_of, specs.Reading.word, specs.WellFormed.AreBytes, proofs.EncodingLemmas.word_from}
 use Rattle.of_rewrite.specs.Spans.{over_bits, with_word, part_over_bits}
 
 -- ---- places

@@ -1,36 +1,19 @@
 -- Checksums that followed are those that are updated.
 use Rattle.std.proofs.Common.{◌≡◌, ℕ, zero, suc, ◌+◌, ◌*◌, ◌/◌, ◌%◌, ◌^◌, ◌<◌, ◌≤◌, ◌≢◌, Bool, true, false, cond, List, ◌∷◌, ◌++◌, length, take, drop, set, subst, Option, Some, None, refl, sym, ap, ◌∙◌, arith}
-use Rattle.std.specs.Prelude.{◌==◌, ◌&&◌, ◌||◌, not}
 use Rattle.std.proofs.lemmas.List.{append-nil, take_at, drop_at, length-take-le, take-append-drop, drop-drop}
-use Rattle.std.proofs.Math.ListN.{length-set}
-use Rattle.std.proofs.lemmas.Nat.{mod-pow-add}
-use Rattle.std.proofs.Math.Nat.{mod-eq_of_lt}
-use Rattle.of_layers.specs.declared.place.Place.{Place}
-use Rattle.of_layers.specs.declared.transport.Transport.{Transport}
+use Rattle.std.{specs.Prelude.◌==◌, specs.Prelude.◌&&◌, specs.Prelude.◌||◌, specs.Prelude.not, proofs.Math.ListN.length-set, proofs.lemmas.Nat.mod-pow-add, proofs.Math.Nat.mod-eq_of_lt}
 use Rattle.of_layers.specs.declared.transport.Transport.TheVariants.{Nothing, Tcp, Udp, Icmpv4, Icmpv6}
-use Rattle.of_layers.specs.Bits.{bits, bits_of}
 use Rattle.of_layers.specs.Layers.{Cell, Layers, cells, encoded, size_of}
-use Rattle.of_layers.specs.Looking.{look_up, locate_at}
-use Rattle.of_layers.specs.Reading.{word}
-use Rattle.of_layers.specs.WellFormed.{AreBytes}
-use Rattle.of_layers.proofs.BitLemmas.{length-bits, length-bits_of, bits_of-append}
-use Rattle.of_layers.proofs.EncodingLemmas.{word_from}
-use Rattle.of_headers.specs.declared.layout.Layout.{Layout}
-use Rattle.of_headers.specs.declared.layout.Network.{Network}
+use Rattle.of_layers.specs.{declared.place.Place.Place, declared.transport.Transport.Transport, Bits.bits, Bits.bits_of, Looking.look_up, Looking.locate_at, Reading.word, WellFormed.AreBytes}
+use Rattle.of_layers.proofs.{BitLemmas.length-bits, BitLemmas.length-bits_of, BitLemmas.bits_of-append, EncodingLemmas.word_from}
+use Rattle.of_headers.specs.{declared.layout.Layout.Layout, declared.layout.Network.Network, Places.layout_of}
 use Rattle.of_headers.specs.declared.layout.Network.TheVariants as network
-use Rattle.of_headers.specs.Places.{layout_of}
-use Rattle.of_rewrite.specs.declared.sums.Span.{Span}
-use Rattle.of_rewrite.specs.declared.sums.Sum.{Sum}
-use Rattle.of_rewrite.specs.declared.sums.Sums.{Sums}
 use Rattle.of_rewrite.specs.Checksum.{number_of_bits, words_of, differ, updated, never_zero, carried_updated}
-use Rattle.of_rewrite.specs.Rewriting.{change_at, replace_at, without_addresses}
 use Rattle.of_rewrite.specs.Spans.{over_bits, words_at, span_words, covered_words, both_followed, AreEven}
 use Rattle.of_rewrite.specs.Renewal.{checksum_byte, word_or_zero, moved, header_checksum_at, carried_at, sums_of, settled, settled_in, written_at, with_header, with_carried, HasRoomIn, HasRoom, no_words, packet_at, header_span, address_span, carried_span}
-use Rattle.of_rewrite.proofs.CoveredWords.{words_in, header_words, carried_words, carried_rule}
-use Rattle.of_rewrite.specs.Replaced.{Replaceable}
-use Rattle.of_rewrite.proofs.Changes.{renewed_below}
 use Rattle.of_rewrite.proofs.Finding.{Sound, Found, found, not_found, put_changed, others, word_put, word_found, bytes_with_word}
-use Rattle.of_rewrite.proofs.Covering.{set_in_place}
+use Rattle.of_rewrite.specs.{declared.sums.Span.Span, declared.sums.Sum.Sum, declared.sums.Sums.Sums, Rewriting.change_at, Rewriting.replace_at, Rewriting.without_addresses, Replaced.Replaceable}
+use Rattle.of_rewrite.proofs.{CoveredWords.words_in, CoveredWords.header_words, CoveredWords.carried_words, CoveredWords.carried_rule, Changes.renewed_below, Covering.set_in_place}
 use Rattle.of_rewrite.proofs.Standing.{number_place, Stands, IsEvenIn}
 
 -- ---- words of bits and of bytes

@@ -1,38 +1,22 @@
 -- Where a number of layers is replaced, checksums that were right stay so.
 use Rattle.std.proofs.Common.{◌≡◌, ◌≢◌, ℕ, zero, suc, ◌+◌, ◌-◌, ◌*◌, ◌/◌, ◌%◌, ◌^◌, ◌<◌, ◌≤◌, Bool, true, false, cond, List, [], ◌∷◌, ◌++◌, length, get_or, take, drop, sum, Option, Some, ◌⊎◌, inl, inr, refl, sym, ap, ◌∙◌, arith, subst, append_assoc, zero-add}
 use Rattle.std.specs.Prelude.{◌==◌, ◌&&◌, ◌||◌, not, nat_lt}
-use Rattle.std.proofs.lemmas.List.{length-append}
-use Rattle.std.proofs.lemmas.List.Sums.{sum_by-cons, sum_by-append}
-use Rattle.std.proofs.Math.Nat.{mod-eq_of_lt}
-use Rattle.std.proofs.lemmas.Nat.{pow_pos}
-use Rattle.of_layers.specs.declared.place.Place.{Place}
-use Rattle.of_layers.specs.declared.transport.Transport.{Transport}
+use Rattle.std.proofs.{lemmas.List.length-append, lemmas.List.Sums.sum_by-cons, lemmas.List.Sums.sum_by-append, Math.Nat.mod-eq_of_lt, lemmas.Nat.pow_pos}
 use Rattle.of_layers.specs.declared.transport.Transport.TheVariants.{Nothing, Tcp, Udp, Icmpv4, Icmpv6}
-use Rattle.of_layers.specs.Bits.{bits}
-use Rattle.of_layers.specs.Fields.{row_of}
 use Rattle.of_layers.specs.Layers.{Cell, Layers, Carried, Body, Plain, Arp, Ipv4, Ipv6, cells_in, byte_cells, cells, encoded, ipv4, ipv6, plain, items_of, size_of}
-use Rattle.of_layers.specs.Looking.{name_is, look_up, locate_at}
+use Rattle.of_layers.specs.{declared.place.Place.Place, declared.transport.Transport.Transport, Bits.bits, Fields.row_of, Looking.name_is, Looking.look_up, Looking.locate_at}
 use Rattle.of_layers.specs.WellFormed.{FitsItems, IsIpv4, IsLayers}
-use Rattle.of_headers.specs.Places.{width, network_of, layout_of}
-use Rattle.of_headers.proofs.LocateLemmas.{width-append, width_bytes, locate_front}
+use Rattle.of_headers.{specs.Places.width, specs.Places.network_of, specs.Places.layout_of, proofs.LocateLemmas.width-append, proofs.LocateLemmas.width_bytes, proofs.LocateLemmas.locate_front}
 use Rattle.of_rewrite.specs.Checksum.{fold, words_of, number_of_bits, differ, updated, never_zero, udp_updated, carried_updated, AreWords, sums_to_ones}
 use Rattle.of_rewrite.specs.Rewriting.{change_at, words, without_addresses, header_cover, address_cover, carried_cover}
-use Rattle.of_rewrite.specs.Renewal.{packet_at, header_span, address_span, carried_span}
-use Rattle.of_rewrite.proofs.CoveredWords.{words_in}
-use Rattle.of_rewrite.specs.Replaced.{numbers_with, tags_with, body_with, layers_with}
-use Rattle.of_rewrite.specs.Right.{is_left_out}
-use Rattle.of_rewrite.proofs.Changes.{renewed_below}
-use Rattle.of_rewrite.proofs.Covering.{Covers, covers, change_id, drop_cells}
-use Rattle.of_rewrite.proofs.Finding.{Sound, Found, found, names_apart}
-use Rattle.of_rewrite.proofs.Framing.{encoded_bits}
 use Rattle.of_rewrite.proofs.Kept.{cut_at, cut_cells, cut_none, cut_layers, absent_by}
-use Rattle.of_rewrite.proofs.KeptLayers.{layers_kept}
-use Rattle.of_rewrite.proofs.Narrow.{some_is}
 use Rattle.of_rewrite.proofs.Parts.{has, All, all_in, passes, change_none_in}
-use Rattle.of_rewrite.proofs.Putting.{bits_low}
 use Rattle.of_rewrite.proofs.Righting.{Ones, ones, folded, renewed_ones, never_zero_ones, differ_same, words_below, length_words, Split, split}
-use Rattle.of_rewrite.proofs.Standing.{length_encoded}
 use Rattle.of_rewrite.proofs.Structure.{placed, located, wide, sound, sound_bytes, sound_append, items_total}
+use Rattle.of_rewrite.specs.{Renewal.packet_at, Renewal.header_span, Renewal.address_span, Renewal.carried_span, Replaced.numbers_with, Replaced.tags_with, Replaced.body_with, Replaced.layers_with}
+use Rattle.of_rewrite.{specs.Right.is_left_out, proofs.CoveredWords.words_in, proofs.Changes.renewed_below}
+use Rattle.of_rewrite.proofs.{Covering.Covers, Covering.covers, Covering.change_id, Covering.drop_cells, Finding.Sound, Finding.Found, Finding.found, Finding.names_apart, Framing.encoded_bits}
+use Rattle.of_rewrite.proofs.{KeptLayers.layers_kept, Narrow.some_is, Putting.bits_low, Standing.length_encoded}
 
 -- ---- what is covered, where a number changes
 

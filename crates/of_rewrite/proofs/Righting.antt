@@ -1,21 +1,12 @@
 -- Checksums that were right are right after they are updated.
 use Rattle.std.proofs.Common.{◌≡◌, ℕ, zero, suc, ◌+◌, ◌-◌, ◌*◌, ◌/◌, ◌%◌, ◌^◌, ◌<◌, ◌≤◌, true, false, List, [], ◌∷◌, ◌++◌, length, take, drop, sum, Some, refl, sym, ap, ◌∙◌, arith, subst, inl, inr}
-use Rattle.std.specs.Prelude.{◌==◌, IsTrue}
-use Rattle.std.proofs.lemmas.Bool.{cases_eq, ne_eqb, eqb-true, eq-eqb}
 use Rattle.std.proofs.lemmas.List.{take_at, drop_at, length-append, length-drop, length-take, take-append-le, drop-append-le}
-use Rattle.std.proofs.lemmas.List.Sums.{sum_by-cons}
-use Rattle.std.proofs.Math.Nat.{mod-eq_of_lt, pow-le-pow_right}
-use Rattle.of_layers.specs.Bits.{bits}
-use Rattle.of_layers.specs.Layers.{Cell, encoded}
-use Rattle.of_layers.specs.Looking.{look_up, locate_at}
-use Rattle.of_layers.proofs.BitLemmas.{length-bits}
+use Rattle.std.{specs.Prelude.◌==◌, specs.Prelude.IsTrue, proofs.lemmas.Bool.cases_eq, proofs.lemmas.Bool.ne_eqb, proofs.lemmas.Bool.eqb-true, proofs.lemmas.Bool.eq-eqb}
+use Rattle.std.proofs.{lemmas.List.Sums.sum_by-cons, Math.Nat.mod-eq_of_lt, Math.Nat.pow-le-pow_right}
+use Rattle.of_layers.{specs.Bits.bits, specs.Layers.Cell, specs.Layers.encoded, specs.Looking.look_up, specs.Looking.locate_at, proofs.BitLemmas.length-bits}
 use Rattle.of_rewrite.specs.Checksum.{fold, number_of_bits, words_of, change, differ, updated, never_zero, sums_to_ones, AreWords}
-use Rattle.of_rewrite.specs.Rewriting.{change_at, words}
-use Rattle.of_rewrite.proofs.Changes.{changes, sum_changed, right_by, without_word}
-use Rattle.of_rewrite.proofs.Finding.{Sound, Found, found}
-use Rattle.of_rewrite.proofs.Folding.{fold_is}
-use Rattle.of_rewrite.proofs.Framing.{AreBits, bits_take, bits_drop, number_below}
-use Rattle.of_rewrite.proofs.Renewing.{number-bits}
+use Rattle.of_rewrite.{specs.Rewriting.change_at, specs.Rewriting.words, proofs.Changes.changes, proofs.Changes.sum_changed, proofs.Changes.right_by, proofs.Changes.without_word}
+use Rattle.of_rewrite.proofs.{Finding.Sound, Finding.Found, Finding.found, Folding.fold_is, Framing.AreBits, Framing.bits_take, Framing.bits_drop, Framing.number_below, Renewing.number-bits}
 
 -- ---- a sum of all ones
 

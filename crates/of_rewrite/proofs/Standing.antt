@@ -1,23 +1,16 @@
 -- The places of the checksums and the TTL of a frame, that its layers are in it, and that its numbers are in whole words.
 use Rattle.std.proofs.Common.{◌≡◌, ℕ, ◌+◌, ◌*◌, ◌/◌, ◌%◌, ◌≤◌, List, [], ◌∷◌, ◌++◌, length, Option, Some, None, refl, sym, ap, ◌∙◌, arith, slice_index}
-use Rattle.std.specs.Option.{option_or}
-use Rattle.std.proofs.lemmas.List.{length-append}
-use Rattle.of_layers.specs.declared.place.Place.{Place}
-use Rattle.of_layers.specs.declared.transport.Transport.{Transport}
+use Rattle.std.{specs.Option.option_or, proofs.lemmas.List.length-append}
 use Rattle.of_layers.specs.declared.transport.Transport.TheVariants.{Nothing, Tcp, Udp, Icmpv4, Icmpv6}
-use Rattle.of_layers.specs.Fields.{row_of}
-use Rattle.of_layers.specs.Bits.{bits, bits_of}
 use Rattle.of_layers.specs.Layers.{Cell, Layers, Carried, Extension, Body, Plain, Arp, Ipv4, Ipv6, cells_in, byte_cells, tag_cells, extension_cells, carried_cells, body_cells, cells, encoded, addresses, outer_tag, inner_tag, ether_type, arp, ipv4, ipv6, items_of, size_of, all_bytes, next_before, ttl, header_checksum, checksum}
-use Rattle.of_layers.specs.Looking.{locate_at}
-use Rattle.of_layers.specs.WellFormed.{FitsItems, IsBody, IsLayers}
-use Rattle.of_layers.proofs.BitLemmas.{length-bits, length-bits_of}
-use Rattle.of_headers.specs.declared.layout.Network.{Network}
-use Rattle.of_headers.specs.declared.layout.Network.TheVariants as network
-use Rattle.of_headers.specs.Places.{width, network_of, layout_of}
+use Rattle.of_layers.specs.{declared.place.Place.Place, declared.transport.Transport.Transport, Fields.row_of, Bits.bits, Bits.bits_of, Looking.locate_at}
+use Rattle.of_layers.{specs.WellFormed.FitsItems, specs.WellFormed.IsBody, specs.WellFormed.IsLayers, proofs.BitLemmas.length-bits, proofs.BitLemmas.length-bits_of}
 use Rattle.of_headers.proofs.LocateLemmas.{locate-append, locate_bytes, locate_front, width-append, width_bytes}
+use Rattle.of_headers.specs.{declared.layout.Network.Network, Places.width, Places.network_of, Places.layout_of}
+use Rattle.of_headers.specs.declared.layout.Network.TheVariants as network
 use Rattle.of_rewrite.specs.Renewal.{checksum_byte, moved, ttl_at, header_checksum_at, carried_at, HasRoomIn, HasRoom, packet_at}
-use Rattle.of_rewrite.proofs.Finding.{Sound, Found, found}
 use Rattle.of_rewrite.proofs.Structure.{placed, located, wide, sound, sound_bytes, sound_append, Part, tags_part, NoExtension, Chained, chained, items_total, ipv6_total, ipv4_stands, ipv6_stands}
+use Rattle.of_rewrite.proofs.Finding.{Sound, Found, found}
 
 -- ---- names that are in no header but those of IP and what it carries
 

@@ -2,15 +2,12 @@
 use Rattle.std.proofs.Common.{◌≡◌, ℕ, ◌≤◌, ◌%◌, Bool, true, false, List, ◌++◌, length, sum, refl, ap, ◌∙◌}
 use Rattle.std.specs.Prelude.{◌&&◌}
 use Rattle.of_layers.specs.Layers.{Cell, Layers, Carried, Body, Plain, Arp, Ipv4, Ipv6, cells_in, byte_cells, ipv4, items_of}
-use Rattle.of_layers.specs.Looking.{look_up}
-use Rattle.of_layers.specs.Reading.{layers_of}
-use Rattle.of_layers.specs.WellFormed.{AreBytes, IsLayers}
-use Rattle.of_layers.proofs.FrameLemmas.{are_layers}
+use Rattle.of_layers.{specs.Looking.look_up, specs.Reading.layers_of, specs.WellFormed.AreBytes, specs.WellFormed.IsLayers, proofs.FrameLemmas.are_layers}
 use Rattle.of_rewrite.specs.Rewriting.{replace_at, words, address_cover, carried_cover, header_updated, carried_after}
-use Rattle.of_rewrite.specs.Replaced.{Replaceable, LeavesLayers, numbers_with, layers_set}
 use Rattle.of_rewrite.specs.Right.{is_left_out, left_out, header_off, carried_off, StayOff}
-use Rattle.of_rewrite.proofs.OffLayers.{header_off_step, kinds_off, kinds_left_out}
 use Rattle.of_rewrite.proofs.StayingRight.{frame_with, body_set, HeaderSet, header_set, CarriedSet, carried_set_4, carried_set_6}
+use Rattle.of_rewrite.specs.Replaced.{Replaceable, LeavesLayers, numbers_with, layers_set}
+use Rattle.of_rewrite.proofs.OffLayers.{header_off_step, kinds_off, kinds_left_out}
 
 header_same_off : (ends : List ℕ) (tags : List (List ℕ)) (type : ℕ) (b : Body) (n v : ℕ) → IsLayers (frame_with ends tags type b) → Replaceable n → LeavesLayers n → header_off (body_set n v b) ≡ header_off b
 header_same_off ends tags type (Plain rest) n v h free leaves = refl

@@ -1,24 +1,15 @@
 -- Checksums of a frame that were right stay so where a number is replaced.
 use Rattle.std.proofs.Common.{◌≡◌, ℕ, ◌<◌, ◌≤◌, Bool, true, false, cond, List, [], ◌++◌, length, drop, sum, ◌⊎◌, refl, sym, ap, ◌∙◌, arith}
 use Rattle.std.specs.Prelude.{◌&&◌, ◌||◌}
-use Rattle.of_layers.specs.declared.transport.Transport.{Transport}
-use Rattle.of_layers.specs.declared.transport.Transport.TheVariants.{Nothing}
-use Rattle.of_layers.specs.Fields.{row_of}
 use Rattle.of_layers.specs.Layers.{Item, Cell, Layers, Carried, Extension, Body, Plain, Arp, Ipv4, Ipv6, cells_in, byte_cells, ipv4, ipv6, plain, items_of}
-use Rattle.of_layers.specs.Looking.{look_up}
-use Rattle.of_layers.specs.Reading.{layers_of}
-use Rattle.of_layers.specs.WellFormed.{AreBytes, FitsItems, IsIpv4, IsLayers}
-use Rattle.of_layers.proofs.FrameLemmas.{are_layers}
-use Rattle.of_rewrite.specs.Checksum.{updated, carried_updated, sums_to_ones}
+use Rattle.of_layers.specs.{declared.transport.Transport.Transport, declared.transport.Transport.TheVariants.Nothing, Fields.row_of, Looking.look_up, Reading.layers_of}
+use Rattle.of_layers.{specs.WellFormed.AreBytes, specs.WellFormed.FitsItems, specs.WellFormed.IsIpv4, specs.WellFormed.IsLayers, proofs.FrameLemmas.are_layers}
 use Rattle.of_rewrite.specs.Rewriting.{change_at, replace_at, words, without_addresses, header_cover, address_cover, carried_cover, header_updated, carried_after}
 use Rattle.of_rewrite.specs.Replaced.{Replaceable, LeavesLayers, numbers_with, carried_with, body_with, layers_with, layers_set}
-use Rattle.of_rewrite.specs.Right.{header_is_right, is_left_out, carried_is_right, StayRight}
-use Rattle.of_rewrite.proofs.Kept.{cut_at, cut_cells, cut_named, bytes_nameless}
-use Rattle.of_rewrite.proofs.KeptLayers.{fits_with, layers_kept, ipv4_kept}
-use Rattle.of_rewrite.proofs.Parts.{length_changed}
 use Rattle.of_rewrite.proofs.RightLayers.{CoversWith, covers_with, HeaderWords, header_words, header_step, PacketWords, kinds_words, kinds_step, addresses_kept, no_header_checksum, look_other, header_same, words_long, are_words}
-use Rattle.of_rewrite.proofs.Standing.{no_header}
-use Rattle.of_rewrite.proofs.Structure.{Chained, chained}
+use Rattle.of_rewrite.specs.{Checksum.updated, Checksum.carried_updated, Checksum.sums_to_ones, Right.header_is_right, Right.is_left_out, Right.carried_is_right, Right.StayRight}
+use Rattle.of_rewrite.proofs.{Kept.cut_at, Kept.cut_cells, Kept.cut_named, Kept.bytes_nameless, KeptLayers.fits_with, KeptLayers.layers_kept, KeptLayers.ipv4_kept, Parts.length_changed}
+use Rattle.of_rewrite.proofs.{Standing.no_header, Structure.Chained, Structure.chained}
 
 abbrev pub frame_with : List ℕ → List (List ℕ) → ℕ → Body → Layers
 frame_with ends tags type body = record { ends = ends; tags = tags; type = type; body = body }

@@ -1,16 +1,12 @@
 -- Where the layers of a frame begin, and which words are whole.
 use Rattle.std.proofs.Common.{◌≡◌, ℕ, suc, ◌+◌, ◌*◌, ◌%◌, true, false, cond, List, [], ◌∷◌, ◌++◌, length, Option, Some, None, refl, sym, ap, ◌∙◌, arith, slice_index, subst}
-use Rattle.std.specs.Prelude.{◌==◌, if◌then◌else◌}
-use Rattle.std.specs.Option.{option_or}
-use Rattle.of_layers.specs.declared.place.Place.{Place}
-use Rattle.of_layers.specs.declared.transport.Transport.{Transport}
-use Rattle.of_layers.specs.declared.transport.Transport.TheVariants.{Nothing}
+use Rattle.std.specs.{Prelude.◌==◌, Prelude.if◌then◌else◌, Option.option_or}
 use Rattle.of_layers.specs.Layers.{Item, Cell, Carried, Extension, Options, Fragment, Body, Ipv4, Ipv6, cells_in, byte_cells, inner_cells, tag_cells, extension_cells, carried_cells, body_cells, outer_tag, inner_tag, ipv4, ipv6, options, fragment, items_of, size_of, all_bytes, next_before}
-use Rattle.of_layers.specs.Looking.{name_is, locate_at}
 use Rattle.of_layers.specs.WellFormed.{AreBytes, FitsItems, AreTags, IsIpv4, IsIpv6, AreExtensions}
+use Rattle.of_layers.specs.{declared.place.Place.Place, declared.transport.Transport.Transport, declared.transport.Transport.TheVariants.Nothing, Looking.name_is, Looking.locate_at}
 use Rattle.of_layers.proofs.FrontLemmas.{total}
-use Rattle.of_headers.specs.Places.{width}
 use Rattle.of_headers.proofs.LocateLemmas.{locate-append, locate_bytes, locate_front, locate_behind, width-append, width_bytes}
+use Rattle.of_headers.specs.Places.{width}
 use Rattle.of_rewrite.proofs.Finding.{Sound}
 
 -- ---- formats

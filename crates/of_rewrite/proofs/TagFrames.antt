@@ -1,13 +1,9 @@
 -- A frame with a tag pushed or popped, as bytes.
 use Rattle.std.proofs.Common.{◌≡◌, ℕ, zero, suc, ◌+◌, ◌/◌, ◌%◌, ◌<◌, ◌≤◌, true, false, List, [], ◌∷◌, ◌++◌, length, take, drop, ap, ◌∙◌, arith}
 use Rattle.std.proofs.lemmas.List.{length-take-le, length-drop, length-append}
-use Rattle.of_layers.specs.Reading.{is_tag_type}
-use Rattle.of_layers.specs.WellFormed.{AreBytes}
-use Rattle.of_layers.proofs.EncodingLemmas.{AreBytes-take, AreBytes-drop}
-use Rattle.of_rewrite.specs.Tagging.{has_tag, control_in}
-use Rattle.of_rewrite.specs.Frames.{frame_pushed, frame_popped}
-use Rattle.of_rewrite.proofs.Framing.{is_pushed, is_popped}
+use Rattle.of_layers.{specs.Reading.is_tag_type, specs.WellFormed.AreBytes, proofs.EncodingLemmas.AreBytes-take, proofs.EncodingLemmas.AreBytes-drop}
 use Rattle.of_rewrite.proofs.TagPut.{tagged, four, push_is, pop_is, untagged_pops, Tagged, is_tagged}
+use Rattle.of_rewrite.{specs.Tagging.has_tag, specs.Tagging.control_in, specs.Frames.frame_pushed, specs.Frames.frame_popped, proofs.Framing.is_pushed, proofs.Framing.is_popped}
 
 pub bytes_append : (a b : List ℕ) → AreBytes a → AreBytes b → AreBytes (a ++ b)
 bytes_append [] b h k i = k i

@@ -1,12 +1,9 @@
 -- A tag that is put after the addresses is the outermost of the frame's, and all else is as before.
 use Rattle.std.proofs.Common.{◌≡◌, ℕ, suc, ◌+◌, ◌*◌, ◌/◌, ◌%◌, ◌<◌, ◌≤◌, true, false, cond, List, [], ◌∷◌, ◌++◌, length, get_or, take, drop, refl, sym, ap, ◌∙◌, arith}
-use Rattle.std.specs.Prelude.{nat_le, ◌&&◌}
 use Rattle.std.proofs.lemmas.List.{drop_at, take_at, drop-drop, length-drop, length-take-le, get_or-take, get_or_append_left, length-append, drop_more, take-append-drop}
-use Rattle.of_layers.specs.Layers.{Layers}
+use Rattle.std.{specs.Prelude.nat_le, specs.Prelude.◌&&◌, proofs.lemmas.Bool.leb-true, proofs.lemmas.Bool.leb-false}
 use Rattle.of_layers.specs.Reading.{word, six, tag_count, tags_of, tag_numbers, is_tag_type, body_of, layers_of}
-use Rattle.std.proofs.lemmas.Bool.{leb-true, leb-false}
-use Rattle.of_layers.proofs.TestLemmas.{and_true}
-use Rattle.of_layers.proofs.FrontLemmas.{word_behind}
+use Rattle.of_layers.{specs.Layers.Layers, proofs.TestLemmas.and_true, proofs.FrontLemmas.word_behind}
 use Rattle.of_layers.proofs.TagLemmas.{tag_step, tag_count_more, tag_count_none, tag_count_short}
 use Rattle.of_headers.specs.Tags.{tag_before, pushed, inner_tags, popped}
 use Rattle.of_rewrite.specs.Tagging.{has_tag, control_in}

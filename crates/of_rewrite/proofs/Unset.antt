@@ -1,36 +1,19 @@
 -- Numbers that do not occur, and numbers of one byte.
 use Rattle.std.proofs.Common.{◌≡◌, ℕ, ◌+◌, ◌*◌, ◌/◌, ◌^◌, ◌<◌, ◌≤◌, Bool, true, false, cond, List, [], ◌∷◌, ◌++◌, length, take, drop, get_or, Option, Some, None, refl, sym, ap, ◌∙◌, arith}
-use Rattle.std.specs.Prelude.{◌==◌, ◌&&◌, ◌||◌}
-use Rattle.of_layers.specs.declared.place.Place.{Place}
-use Rattle.of_layers.specs.declared.transport.Transport.{Transport}
+use Rattle.std.{specs.Prelude.◌==◌, specs.Prelude.◌&&◌, specs.Prelude.◌||◌, proofs.lemmas.List.take-append-drop, proofs.lemmas.List.length-take-le}
 use Rattle.of_layers.specs.declared.transport.Transport.TheVariants.{Nothing, Tcp, Udp, Icmpv4, Icmpv6}
-use Rattle.std.proofs.lemmas.List.{take-append-drop, length-take-le}
-use Rattle.of_layers.specs.Bits.{bits, bits_of}
-use Rattle.of_layers.specs.Reading.{layers_of}
-use Rattle.of_layers.specs.WellFormed.{AreBytes}
-use Rattle.of_layers.proofs.BitLemmas.{length-bits_of, bits_of-append, append_same, bits_front}
-use Rattle.of_layers.proofs.EncodingLemmas.{byte_from}
-use Rattle.of_layers.proofs.FrameLemmas.{frame_encoded, are_layers}
 use Rattle.of_layers.specs.Layers.{Cell, Layers, cells, encoded, size_of, ttl}
-use Rattle.of_layers.specs.Looking.{name_is, look_up, locate_at}
-use Rattle.of_headers.specs.declared.layout.Layout.{Layout}
-use Rattle.of_headers.specs.declared.layout.Network.{Network}
+use Rattle.of_layers.specs.{declared.place.Place.Place, declared.transport.Transport.Transport, Bits.bits, Bits.bits_of, Reading.layers_of, WellFormed.AreBytes}
+use Rattle.of_layers.specs.{Looking.name_is, Looking.look_up, Looking.locate_at, declared.field.Field.Field, Fields.number_of}
+use Rattle.of_layers.proofs.{BitLemmas.length-bits_of, BitLemmas.bits_of-append, BitLemmas.append_same, BitLemmas.bits_front, EncodingLemmas.byte_from}
+use Rattle.of_layers.proofs.{FrameLemmas.frame_encoded, FrameLemmas.are_layers, Table.number_below}
+use Rattle.of_headers.specs.{declared.layout.Layout.Layout, declared.layout.Network.Network, Places.layout_of}
 use Rattle.of_headers.specs.declared.layout.Network.TheVariants as network
-use Rattle.of_headers.specs.Places.{layout_of}
-use Rattle.of_rewrite.specs.Checksum.{updated, carried_updated}
-use Rattle.of_rewrite.specs.Rewriting.{change_at, replace_at, number_set}
 use Rattle.of_rewrite.specs.Renewal.{header_checksum_at, carried_at, ttl_at, HasRoomIn, packet_at}
-use Rattle.of_rewrite.proofs.CoveredWords.{header_words, carried_words, carried_rule}
-use Rattle.of_rewrite.proofs.Changes.{renewed_same, differ_none}
-use Rattle.of_rewrite.proofs.Finding.{Sound, Found, found, not_found}
-use Rattle.of_rewrite.proofs.Covering.{set_in_place, set_where}
-use Rattle.of_rewrite.proofs.Standing.{Stands, stands, number_place}
-use Rattle.of_layers.specs.declared.field.Field.{Field}
-use Rattle.of_layers.specs.Fields.{number_of}
-use Rattle.of_layers.proofs.Table.{number_below}
-use Rattle.of_rewrite.specs.Replaced.{Replaceable}
-use Rattle.of_rewrite.proofs.Narrow.{at_most_128}
-use Rattle.of_rewrite.proofs.Renewing.{Small, small_at, room_for}
+use Rattle.of_rewrite.specs.{Checksum.updated, Checksum.carried_updated, Rewriting.change_at, Rewriting.replace_at, Rewriting.number_set, Replaced.Replaceable}
+use Rattle.of_rewrite.proofs.{CoveredWords.header_words, CoveredWords.carried_words, CoveredWords.carried_rule, Changes.renewed_same, Changes.differ_none}
+use Rattle.of_rewrite.proofs.{Finding.Sound, Finding.Found, Finding.found, Finding.not_found, Covering.set_in_place, Covering.set_where, Standing.Stands, Standing.stands, Standing.number_place}
+use Rattle.of_rewrite.proofs.{Narrow.at_most_128, Renewing.Small, Renewing.small_at, Renewing.room_for}
 
 fixed : (k : ℕ) (cs : List Cell) (f : ℕ → ℕ) → ((x : ℕ) → look_up k cs ≡ Some x → f x ≡ x) → change_at k f cs ≡ cs
 fixed k [] f h = refl

@@ -1,27 +1,18 @@
 -- The view of a frame after an action, and what a lookup sees of it.
 use Rattle.std.proofs.Common.{◌≡◌, ℕ, ◌-◌, ◌%◌, ◌^◌, ◌<◌, Bool, true, false, cond, eqb, List, [], ◌∷◌, Option, Some, None, refl, sym, ap, subst, ◌∙◌, arith}
-use Rattle.std.specs.Prelude.{IsTrue, nat_le, map}
-use Rattle.std.specs.Option.{option_map}
-use Rattle.std.proofs.Math.Nat.{mod-eq_of_lt}
+use Rattle.std.{specs.Prelude.IsTrue, specs.Prelude.nat_le, specs.Prelude.map, specs.Option.option_map, proofs.Math.Nat.mod-eq_of_lt}
+use Rattle.of_layers.specs.Layers.{Layers, cells, outer_tag, inner_tag, ttl}
 use Rattle.of_layers.specs.declared.field.Field.{Field}
 use Rattle.of_layers.specs.declared.field.Field.TheVariants.{InPort, Metadata, VlanVid, VlanPcp}
-use Rattle.of_layers.specs.Fields.{row_of, number_of, is_settable}
-use Rattle.of_layers.specs.Layers.{Layers, cells, outer_tag, inner_tag, ttl}
-use Rattle.of_layers.specs.Reading.{layers_of}
-use Rattle.of_layers.specs.WellFormed.{FitsItems, AreTags, IsLayers}
+use Rattle.of_layers.specs.{Fields.row_of, Fields.number_of, Fields.is_settable, Reading.layers_of, WellFormed.FitsItems, WellFormed.AreTags, WellFormed.IsLayers}
 use Rattle.of_layers.proofs.FrameLemmas.{are_layers}
-use Rattle.of_headers.specs.FieldMap.{field_map, vid}
-use Rattle.of_headers.specs.Tags.{pushed, popped}
+use Rattle.of_headers.specs.{FieldMap.field_map, FieldMap.vid, Tags.pushed, Tags.popped}
 use Rattle.of_rewrite.specs.Calls.{FrameCall, PushVlan, PopVlan, Set, SetTtl, DecTtl, Lend, IsAllowed, frame_after}
-use Rattle.of_rewrite.specs.Frames.{IsFrame}
-use Rattle.of_rewrite.specs.Replaced.{numbers_with, tags_with, layers_set}
-use Rattle.of_rewrite.specs.TimeToLive.{ttl_of, layers_ttl_decremented}
 use Rattle.of_rewrite.specs.Views.{Tag, View, header_field, tag_of_numbers, view_in, view_of, AreSameViews, IsView, outermost, fields_seen, view_pushed, view_popped, replaced_if_there, tag_set, outermost_set, view_set, view_ttl, IsAction, view_after}
-use Rattle.of_rewrite.proofs.Finding.{Sound}
 use Rattle.of_rewrite.proofs.Layering.{layers_after_set, layers_after_ttl, layers_after_decrement, layers_after_push, layers_after_pop}
 use Rattle.of_rewrite.proofs.Looking.{field_found, not_set, ttl_kept, field_kept, ttl_found, look_untagged, in_outermost, vid_found, pcp_found}
-use Rattle.of_rewrite.proofs.Unset.{frame_stands}
-use Rattle.of_rewrite.proofs.Widths.{found_small, layers_wide, ttl_wide}
+use Rattle.of_rewrite.specs.{Frames.IsFrame, Replaced.numbers_with, Replaced.tags_with, Replaced.layers_set, TimeToLive.ttl_of, TimeToLive.layers_ttl_decremented}
+use Rattle.of_rewrite.proofs.{Finding.Sound, Unset.frame_stands, Widths.found_small, Widths.layers_wide, Widths.ttl_wide}
 
 -- ---- same views
 

@@ -1,17 +1,11 @@
 -- How many bits the cell of a field has.
 use Rattle.std.proofs.Common.{◌≡◌, ℕ, ◌%◌, ◌^◌, ◌<◌, Bool, true, false, cond, eqb, ◌&&◌, List, [], ◌∷◌, ◌++◌, Some, refl, ap}
-use Rattle.std.specs.Prelude.{◌||◌, not, IsTrue}
-use Rattle.std.specs.Option.{option_map}
-use Rattle.std.proofs.lemmas.Bool.{eqb-true}
-use Rattle.of_layers.specs.declared.field.Field.{Field}
+use Rattle.std.{specs.Prelude.◌||◌, specs.Prelude.not, specs.Prelude.IsTrue, specs.Option.option_map, proofs.lemmas.Bool.eqb-true}
 use Rattle.of_layers.specs.declared.field.Field.TheVariants.{InPort, Metadata, EthType, IpProto, VlanVid}
-use Rattle.of_layers.specs.declared.transport.Transport.{Transport}
-use Rattle.of_layers.specs.declared.transport.Transport.TheVariants.{Nothing}
-use Rattle.of_layers.specs.Fields.{row_of, number_of, bit_count, is_settable}
 use Rattle.of_layers.specs.Layers.{Item, Cell, Carried, Extension, Options, Fragment, Body, Plain, Arp, Ipv4, Ipv6, Layers, cells_in, byte_cells, inner_cells, tag_cells, extension_cells, carried_cells, body_cells, cells, next_before, addresses, outer_tag, inner_tag, ether_type, arp, ipv4, ipv6, options, fragment, items_of, ttl}
-use Rattle.of_layers.specs.Looking.{name_is, look_up}
-use Rattle.of_rewrite.proofs.Finding.{Sound}
-use Rattle.of_rewrite.proofs.Kept.{cut_at}
+use Rattle.of_layers.specs.{declared.field.Field.Field, declared.transport.Transport.Transport, declared.transport.Transport.TheVariants.Nothing}
+use Rattle.of_layers.specs.{Fields.row_of, Fields.number_of, Fields.bit_count, Fields.is_settable, Looking.name_is, Looking.look_up}
+use Rattle.of_rewrite.proofs.{Finding.Sound, Kept.cut_at}
 
 -- each cell of this name has this width
 abbrev pub HasWidth : ℕ → ℕ → List Cell → Type 0

@@ -1,16 +1,10 @@
 -- Calls that rewrite a frame, one after the other, and what is known of its headers after them.
 use Rattle.std.specs.Prelude.{◌≡◌, ℕ, ◌+◌, ◌-◌, List, [], ◌∷◌, length, IsTrue, ⊤, if◌then◌else◌}
-use Rattle.of_layers.specs.declared.field.Field.{Field}
-use Rattle.of_layers.specs.Fields.{is_settable}
-use Rattle.of_layers.specs.Reading.{is_tag_type, layers_of}
-use Rattle.of_layers.specs.WellFormed.{AreBytes}
-use Rattle.of_headers.specs.declared.layout.Layout.{Layout}
-use Rattle.of_headers.specs.declared.known.Known.{Known}
-use Rattle.of_headers.specs.declared.known.Known.TheVariants.{Nothing, Places, Fields}
-use Rattle.of_headers.specs.Places.{layout_of}
-use Rattle.of_rewrite.specs.Tagging.{has_tag}
+use Rattle.of_layers.specs.{declared.field.Field.Field, Fields.is_settable, Reading.is_tag_type, Reading.layers_of, WellFormed.AreBytes}
+use Rattle.of_headers.specs.{declared.layout.Layout.Layout, declared.known.Known.Known}
+use Rattle.of_headers.specs.{declared.known.Known.TheVariants.Nothing, declared.known.Known.TheVariants.Places, declared.known.Known.TheVariants.Fields, Places.layout_of}
 use Rattle.of_rewrite.specs.Frames.{frame_set, frame_pushed, frame_popped, frame_ttl, frame_ttl_decremented}
-use Rattle.of_rewrite.specs.Loans.{lent, with_bytes_at}
+use Rattle.of_rewrite.specs.{Tagging.has_tag, Loans.lent, Loans.with_bytes_at}
 
 -- a call of a frame; that of a loan has the bytes that are written into it
 pub data FrameCall : Type 0 where

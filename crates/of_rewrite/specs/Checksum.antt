@@ -1,7 +1,6 @@
 -- How a checksum follows a change of the words that it covers (RFC 1624, 3; UDP: RFC 768 and RFC 8200, 8.1).
 use Rattle.std.specs.Prelude.{ℕ, zero, suc, ◌+◌, ◌-◌, ◌*◌, ◌%◌, ◌^◌, ◌<◌, Bool, false, not, ◌&&◌, ◌||◌, ◌==◌, if◌then◌else◌, List, [], ◌∷◌, length, take, drop, sum, slice_index}
-use Rattle.of_layers.specs.declared.transport.Transport.{Transport}
-use Rattle.of_layers.specs.declared.transport.Transport.TheVariants.{Udp}
+use Rattle.of_layers.specs.{declared.transport.Transport.Transport, declared.transport.Transport.TheVariants.Udp}
 
 -- ---- the words of 16 bits that bits are, the highest bit of each first
 

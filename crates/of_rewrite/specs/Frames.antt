@@ -1,13 +1,8 @@
 -- The frames that actions make of a frame, as bytes (OpenFlow 1.3.5, 5.12).
 use Rattle.std.specs.Prelude.{ℕ, zero, suc, ◌/◌, ◌≤◌, List, [], ◌∷◌, length, take, drop}
-use Rattle.of_layers.specs.declared.field.Field.{Field}
-use Rattle.of_layers.specs.Layers.{Cell, cells, encoded, ttl}
-use Rattle.of_layers.specs.Reading.{layers_of}
-use Rattle.of_layers.specs.WellFormed.{AreBytes}
-use Rattle.of_rewrite.specs.Checksum.{number_of_bits}
-use Rattle.of_rewrite.specs.Rewriting.{number_set, field_set}
+use Rattle.of_layers.specs.{declared.field.Field.Field, Layers.Cell, Layers.cells, Layers.encoded, Layers.ttl, Reading.layers_of, WellFormed.AreBytes}
+use Rattle.of_rewrite.specs.{Checksum.number_of_bits, Rewriting.number_set, Rewriting.field_set, TimeToLive.ttl_of, TimeToLive.ttl_decremented_from}
 use Rattle.of_headers.specs.Tags.{pushed, popped}
-use Rattle.of_rewrite.specs.TimeToLive.{ttl_of, ttl_decremented_from}
 
 -- bytes that are a frame: at least two addresses and a type (IEEE 802.3, 3.1.1)
 abbrev pub IsFrame : List ℕ → Type 0

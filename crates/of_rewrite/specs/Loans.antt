@@ -1,11 +1,7 @@
 -- The bytes of a field, borrowed mutably. No checksum is updated.
 use Rattle.std.specs.Prelude.{ℕ, ◌+◌, ◌/◌, ◌%◌, ◌==◌, Bool, ◌&&◌, if◌then◌else◌, List, ◌++◌, length, take, drop, Option, Some, None}
 use Rattle.std.specs.Borrow.{Lends, MutBor, Fml, Array, u8}
-use Rattle.of_layers.specs.declared.field.Field.{Field}
-use Rattle.of_layers.specs.declared.place.Place.{Place}
-use Rattle.of_layers.specs.Layers.{cells}
-use Rattle.of_layers.specs.Looking.{locate}
-use Rattle.of_layers.specs.Reading.{layers_of}
+use Rattle.of_layers.specs.{declared.field.Field.Field, declared.place.Place.Place, Layers.cells, Looking.locate, Reading.layers_of}
 use Rattle.of_rewrite.specs.contracts.frame.Frame.{the_row}
 
 -- whether a place begins and ends with a byte, as those of VLAN_VID, VLAN_PCP, IP_DSCP, IP_ECN and IPV6_FLABEL do not

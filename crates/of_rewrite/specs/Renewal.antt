@@ -1,18 +1,10 @@
 -- For contracts inside this crate: the checksums of a frame, with their places and what they cover, as they are read and written back.
 use Rattle.std.specs.Prelude.{ℕ, ◌+◌, ◌*◌, ◌/◌, ◌≤◌, Bool, true, false, not, ◌&&◌, ◌||◌, ◌==◌, if◌then◌else◌, List, Option, Some, None}
-use Rattle.of_layers.specs.declared.transport.Transport.{Transport}
 use Rattle.of_layers.specs.declared.transport.Transport.TheVariants.{Nothing, Tcp, Udp, Icmpv4, Icmpv6}
-use Rattle.of_layers.specs.Layers.{size_of}
-use Rattle.of_layers.specs.Reading.{word}
-use Rattle.of_headers.specs.declared.layout.Layout.{Layout}
-use Rattle.of_headers.specs.declared.layout.Network.{Network}
+use Rattle.of_layers.specs.{declared.transport.Transport.Transport, Layers.size_of, Reading.word}
+use Rattle.of_headers.specs.{declared.layout.Layout.Layout, declared.layout.Network.Network}
 use Rattle.of_headers.specs.declared.layout.Network.TheVariants.{Plain, Arp, Ipv4, Ipv6}
-use Rattle.of_rewrite.specs.declared.sums.Sum.{Sum}
-use Rattle.of_rewrite.specs.declared.sums.Sums.{Sums}
-use Rattle.of_rewrite.specs.declared.sums.Span.{Span}
-use Rattle.of_rewrite.specs.Checksum.{never_zero}
-use Rattle.of_rewrite.specs.Rewriting.{without_addresses}
-use Rattle.of_rewrite.specs.Spans.{with_word}
+use Rattle.of_rewrite.specs.{declared.sums.Sum.Sum, declared.sums.Sums.Sums, declared.sums.Span.Span, Checksum.never_zero, Rewriting.without_addresses, Spans.with_word}
 
 -- ---- spans of a frame's words, by where its layers begin
 

@@ -1,9 +1,7 @@
 -- The layers of a frame where one number is replaced, and with it each checksum that covers it. Tags, type, extension headers, what is carried and all bytes that no field names stay: no number that is replaced decides the layering.
 use Rattle.std.specs.Prelude.{ℕ, ◌≢◌, ◌%◌, ◌^◌, if◌then◌else◌, List, [], ◌∷◌}
-use Rattle.of_layers.specs.declared.field.Field.TheVariants.{EthType, IpProto}
-use Rattle.of_layers.specs.Fields.{number_of}
 use Rattle.of_layers.specs.Layers.{Item, Carried, Body, Plain, Arp, Ipv4, Ipv6, Layers, addresses, outer_tag, arp, ipv4, ipv6, next_before, items_of, header_checksum, checksum}
-use Rattle.of_layers.specs.Looking.{name_is}
+use Rattle.of_layers.specs.{declared.field.Field.TheVariants.EthType, declared.field.Field.TheVariants.IpProto, Fields.number_of, Looking.name_is}
 use Rattle.of_rewrite.specs.Rewriting.{header_updated, carried_after}
 
 -- numbers that can be replaced: all but the checksums

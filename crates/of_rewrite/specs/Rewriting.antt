@@ -1,11 +1,8 @@
 -- The cells of a frame where one number is replaced, and with it each checksum that covers it (OpenFlow 1.3.5, 5.12).
 use Rattle.std.specs.Prelude.{ℕ, ◌/◌, Bool, true, false, if◌then◌else◌, List, [], ◌∷◌, ◌++◌, length, drop}
-use Rattle.of_layers.specs.declared.field.Field.{Field}
-use Rattle.of_layers.specs.declared.transport.Transport.{Transport}
-use Rattle.of_layers.specs.declared.transport.Transport.TheVariants.{Nothing, Icmpv4}
-use Rattle.of_layers.specs.Fields.{number_of}
 use Rattle.of_layers.specs.Layers.{Body, Plain, Arp, Ipv4, Ipv6, Layers, Cell, ipv4, ipv6, plain, items_of, cells_in, byte_cells, cells, encoded, header_checksum, checksum}
-use Rattle.of_layers.specs.Looking.{name_is}
+use Rattle.of_layers.specs.{declared.field.Field.Field, declared.transport.Transport.Transport, declared.transport.Transport.TheVariants.Nothing, declared.transport.Transport.TheVariants.Icmpv4}
+use Rattle.of_layers.specs.{Fields.number_of, Looking.name_is}
 use Rattle.of_rewrite.specs.Checksum.{words_of, updated, carried_updated}
 
 -- ---- the same cells with one number changed: that in the first cell of the name

@@ -1,12 +1,8 @@
 -- Correct checksums, which sum up to all ones with all the words that they cover (RFC 1071, 1), and by how much others are off.
 use Rattle.std.specs.Prelude.{ℕ, ◌≡◌, ◌<◌, ◌%◌, Bool, false, IsTrue, ◌||◌, ◌==◌, List, ◌++◌, sum, Option, Some, None}
-use Rattle.of_layers.specs.declared.transport.Transport.{Transport}
 use Rattle.of_layers.specs.declared.transport.Transport.TheVariants.{Nothing, Tcp, Udp, Icmpv4, Icmpv6}
-use Rattle.of_layers.specs.Layers.{Body, Ipv4, checksum}
-use Rattle.of_layers.specs.Looking.{look_up}
-use Rattle.of_layers.specs.Reading.{layers_of}
-use Rattle.of_rewrite.specs.Checksum.{sums_to_ones}
-use Rattle.of_rewrite.specs.Rewriting.{words, header_cover, address_cover, carried_cover}
+use Rattle.of_layers.specs.{declared.transport.Transport.Transport, Layers.Body, Layers.Ipv4, Layers.checksum, Looking.look_up, Reading.layers_of}
+use Rattle.of_rewrite.specs.{Checksum.sums_to_ones, Rewriting.words, Rewriting.header_cover, Rewriting.address_cover, Rewriting.carried_cover}
 
 -- that of the IPv4 header (RFC 791, 3.1)
 abbrev pub header_is_right : Body → Bool

@@ -1,11 +1,7 @@
 -- For contracts inside this crate: words of a frame's bytes that a checksum covers, and the checksum after the bytes changed.
 use Rattle.std.specs.Prelude.{◌≡◌, ℕ, zero, suc, ◌+◌, ◌*◌, ◌/◌, ◌%◌, ◌^◌, Bool, not, ◌||◌, ◌==◌, if◌then◌else◌, List, [], ◌∷◌, ◌++◌, slice_set, take, drop}
-use Rattle.of_layers.specs.Bits.{bits}
-use Rattle.of_layers.specs.Reading.{word}
-use Rattle.of_rewrite.specs.Checksum.{updated, differ}
-use Rattle.of_rewrite.specs.declared.sums.Span.{Span}
-use Rattle.of_rewrite.specs.declared.sums.Sum.{Sum}
-use Rattle.of_rewrite.specs.declared.sums.Sums.{Sums}
+use Rattle.of_layers.specs.{Bits.bits, Reading.word}
+use Rattle.of_rewrite.specs.{Checksum.updated, Checksum.differ, declared.sums.Span.Span, declared.sums.Sum.Sum, declared.sums.Sums.Sums}
 
 -- n words from byte i on
 abbrev pub words_at : ℕ → ℕ → List ℕ → List ℕ

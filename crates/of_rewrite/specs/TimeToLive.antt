@@ -1,10 +1,7 @@
 -- The TTL decremented by one: IPv4's time to live, or IPv6's hop limit (OpenFlow 1.3.5, 5.12; RFC 791, 3.1; RFC 8200, 3).
 use Rattle.std.specs.Prelude.{ℕ, ◌-◌, nat_le, if◌then◌else◌, List, Option, Some, None}
-use Rattle.of_layers.specs.Layers.{Layers, Cell, cells, ttl}
-use Rattle.of_layers.specs.Looking.{look_up}
-use Rattle.of_rewrite.specs.Rewriting.{number_set}
-use Rattle.of_rewrite.specs.Replaced.{layers_set}
-use Rattle.of_rewrite.specs.declared.frame.Ttl.{Ttl}
+use Rattle.of_layers.specs.{Layers.Layers, Layers.Cell, Layers.cells, Layers.ttl, Looking.look_up}
+use Rattle.of_rewrite.specs.{Rewriting.number_set, Replaced.layers_set, declared.frame.Ttl.Ttl}
 use Rattle.of_rewrite.specs.declared.frame.Ttl.TheVariants.{Done, Expired, Absent}
 
 abbrev pub ttl_of : Layers → Option ℕ

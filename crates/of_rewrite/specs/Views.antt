@@ -2,10 +2,7 @@
 use Rattle.std.specs.Prelude.{◌≡◌, ℕ, ◌-◌, ◌%◌, ◌^◌, ◌==◌, nat_le, ⊤, if◌then◌else◌, List, [], ◌∷◌, drop, map, slice_index, Option, Some, None, option_map, unwrap_or}
 use Rattle.of_layers.specs.declared.field.Field.{Field}
 use Rattle.of_layers.specs.declared.field.Field.TheVariants.{InPort, Metadata, VlanVid, VlanPcp}
-use Rattle.of_layers.specs.Fields.{number_of, bit_count}
-use Rattle.of_layers.specs.Layers.{Layers, Cell, cells}
-use Rattle.of_layers.specs.Looking.{look}
-use Rattle.of_layers.specs.Reading.{layers_of}
+use Rattle.of_layers.specs.{Fields.number_of, Fields.bit_count, Layers.Layers, Layers.Cell, Layers.cells, Looking.look, Reading.layers_of}
 use Rattle.of_headers.specs.FieldMap.{vid}
 use Rattle.of_rewrite.specs.Calls.{FrameCall, PushVlan, PopVlan, Set, SetTtl, DecTtl, Lend}
 use Rattle.of_rewrite.specs.TimeToLive.{ttl_of}

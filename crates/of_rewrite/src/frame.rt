@@ -2,18 +2,10 @@
 
 ghost use Rattle.std.specs.Prelude.{◌≡◌, ◌+◌, ◌≤◌, ◌<◌, ◌^◌, length, slice_range, nat_lt, IsTrue, IfOk, OnOk, OnErr};
 ghost use Rattle.std.specs.Borrow.{sem};
-ghost use Rattle.of_layers.specs.Bits.{bits_of};
-ghost use Rattle.of_layers.specs.Fields.{number_of, is_settable, ones_of};
-ghost use Rattle.of_layers.specs.Layers.{encoded, ttl};
-ghost use Rattle.of_layers.specs.Reading.{layers_of, is_tag_type};
-ghost use Rattle.of_headers.specs.FieldMap.{value, field_map};
-ghost use Rattle.of_headers.specs.Known.{IsKnownOf};
-ghost use Rattle.of_rewrite.specs.Rewriting.{field_set, number_set};
+ghost use Rattle.of_layers.specs.{Bits.bits_of, Fields.number_of, Fields.is_settable, Fields.ones_of, Layers.encoded, Layers.ttl, Reading.layers_of, Reading.is_tag_type};
+ghost use Rattle.of_headers.specs.{FieldMap.value, FieldMap.field_map, Known.IsKnownOf, Tags.pushed, Tags.popped};
 ghost use Rattle.of_rewrite.specs.Frames.{frame_set, frame_pushed, frame_popped, frame_ttl, frame_ttl_decremented};
-ghost use Rattle.of_rewrite.specs.Loans.{lent, LendsField};
-ghost use Rattle.of_rewrite.specs.Replaced.{layers_set};
-ghost use Rattle.of_rewrite.specs.Right.{StayRight, StayOff};
-ghost use Rattle.of_headers.specs.Tags.{pushed, popped};
+ghost use Rattle.of_rewrite.specs.{Rewriting.field_set, Rewriting.number_set, Loans.lent, Loans.LendsField, Replaced.layers_set, Right.StayRight, Right.StayOff};
 ghost use Rattle.of_rewrite.specs.TimeToLive.{ttl_of, dec_ttl_result, ttl_decremented_from, layers_ttl_decremented};
 
 use crate::bytes::all_bytes;

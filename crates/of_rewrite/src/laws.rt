@@ -1,16 +1,11 @@
 //! What the update of a checksum keeps, what calls keep of what is known, and what lookups see after them.
 
 ghost use Rattle.std.specs.Prelude.{ℕ, ◌≡◌, ◌<◌, ◌+◌, ◌%◌, ◌∷◌, ◌++◌, IsTrue, List, false, is_some, length, sum};
-ghost use Rattle.of_layers.specs.declared.field.Field.{Field};
-ghost use Rattle.of_layers.specs.Fields.{is_settable};
-ghost use Rattle.of_layers.specs.Reading.{layers_of};
-ghost use Rattle.of_headers.specs.FieldMap.{field_map};
-ghost use Rattle.of_headers.specs.declared.known.Known.{Known};
-ghost use Rattle.of_headers.specs.Known.{IsKnownOf};
-ghost use Rattle.of_rewrite.specs.Frames.{IsFrame};
+ghost use Rattle.of_layers.specs.{declared.field.Field.Field, Fields.is_settable, Reading.layers_of};
+ghost use Rattle.of_headers.specs.{FieldMap.field_map, declared.known.Known.Known, Known.IsKnownOf};
 ghost use Rattle.of_rewrite.specs.Calls.{FrameCall, AreAllowed, IsAllowed, frame_after, frame_after_all, known_after_all};
-ghost use Rattle.of_rewrite.specs.Checksum.{updated, never_zero, sums_to_ones, AreWords};
 ghost use Rattle.of_rewrite.specs.Views.{IsAction, IsView, View, fields_seen, view_after, view_of};
+ghost use Rattle.of_rewrite.specs.{Frames.IsFrame, Checksum.updated, Checksum.never_zero, Checksum.sums_to_ones, Checksum.AreWords};
 
 /// A checksum that was right is right after it is updated: with all the words that it covers it sums up to all ones (RFC 1071, 1).
 ///

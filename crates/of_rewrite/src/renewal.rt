@@ -1,9 +1,9 @@
 //! The checksums of a frame: their places, what they cover, and how they are written back.
 
 ghost use Rattle.std.specs.Prelude.{◌≡◌, ◌+◌, ◌*◌, ◌/◌, ◌≤◌, ◌<◌, ◌^◌, false, if◌then◌else◌, length, IfSome};
+ghost use Rattle.of_rewrite.specs.Renewal.{checksum_byte, word_or_zero, header_checksum_at, carried_at, sums_of, is_udp, settled, settled_in, with_header, with_carried, moved, written_at, HasRoom, no_words, packet_at, header_span, address_span, carried_span};
 ghost use Rattle.of_rewrite.specs.Rewriting.{without_addresses};
 ghost use Rattle.of_layers.specs.Layers.{size_of};
-ghost use Rattle.of_rewrite.specs.Renewal.{checksum_byte, word_or_zero, header_checksum_at, carried_at, sums_of, is_udp, settled, settled_in, with_header, with_carried, moved, written_at, HasRoom, no_words, packet_at, header_span, address_span, carried_span};
 
 use crate::bytes::put_word;
 use crate::sums::{Span, Sum, Sums};

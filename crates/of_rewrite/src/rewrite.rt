@@ -1,19 +1,11 @@
 //! A number of a frame replaced, and its checksums updated.
 
 ghost use Rattle.std.specs.Prelude.{ℕ, ◌≡◌, ◌≢◌, ◌+◌, ◌*◌, ◌/◌, ◌≤◌, ◌<◌, ◌^◌, length, Some, IsTrue};
-ghost use Rattle.of_layers.specs.Bits.{bits_of};
-ghost use Rattle.of_layers.specs.Fields.{number_of, is_settable};
-ghost use Rattle.of_layers.specs.Layers.{cells, encoded, ttl};
-ghost use Rattle.of_layers.specs.Looking.{locate_at};
-ghost use Rattle.of_layers.specs.Reading.{layers_of};
+ghost use Rattle.of_layers.specs.{Bits.bits_of, Fields.number_of, Fields.is_settable, Layers.cells, Layers.encoded, Layers.ttl, Looking.locate_at, Reading.layers_of};
 ghost use Rattle.of_headers.specs.Places.{layout_of};
-ghost use Rattle.of_rewrite.specs.Rewriting.{number_set, field_set};
-ghost use Rattle.of_rewrite.specs.Frames.{bytes_in, frame_set, frame_ttl, frame_ttl_decremented};
-ghost use Rattle.of_rewrite.specs.Loans.{lent};
-ghost use Rattle.of_rewrite.specs.Right.{StayRight, StayOff};
-ghost use Rattle.of_rewrite.specs.TimeToLive.{ttl_of, dec_ttl_result, ttl_decremented_from, layers_ttl_decremented};
-ghost use Rattle.of_rewrite.specs.Renewal.{ttl_at, packet_at};
-ghost use Rattle.of_rewrite.specs.Replaced.{Replaceable, layers_set};
+ghost use Rattle.of_rewrite.specs.{Rewriting.number_set, Rewriting.field_set, Frames.bytes_in, Frames.frame_set, Frames.frame_ttl, Frames.frame_ttl_decremented, Loans.lent};
+ghost use Rattle.of_rewrite.specs.{Right.StayRight, Right.StayOff, TimeToLive.ttl_of, TimeToLive.dec_ttl_result, TimeToLive.ttl_decremented_from, TimeToLive.layers_ttl_decremented};
+ghost use Rattle.of_rewrite.specs.{Renewal.ttl_at, Renewal.packet_at, Replaced.Replaceable, Replaced.layers_set};
 
 use crate::bytes::all_bytes;
 use crate::frame::Ttl;

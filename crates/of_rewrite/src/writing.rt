@@ -1,8 +1,7 @@
 //! Numbers written over bits of a frame.
 
 ghost use Rattle.std.specs.Prelude.{ℕ, ◌≡◌, ◌≢◌, ◌+◌, ◌*◌, ◌/◌, ◌%◌, ◌^◌, ◌-◌, ◌≤◌, ◌<◌, length};
-ghost use Rattle.of_layers.specs.Bits.{bits_of};
-ghost use Rattle.of_layers.specs.Reading.{word};
+ghost use Rattle.of_layers.specs.{Bits.bits_of, Reading.word};
 ghost use Rattle.of_rewrite.specs.Spans.{over_bits, both_followed, AreEven, part_over_bits};
 
 use crate::bytes::{all_bytes, put_word};

@@ -1,17 +1,12 @@
 -- What connections take: all that they are answered, or a prefix of that.
 use Rattle.std.proofs.Common.{◌≡◌, ℕ, ◌+◌, Bool, true, false, List, [], ◌∷◌, ◌++◌, length, Option, Some, refl, ◌∙◌, ap, subst, append_assoc, arith}
-use Rattle.std.proofs.lemmas.List.{append-nil}
-use Rattle.std.specs.Prelude.{◌||◌, map, if◌then◌else◌}
+use Rattle.std.{specs.Prelude.◌||◌, specs.Prelude.map, specs.Prelude.if◌then◌else◌, proofs.lemmas.List.append-nil}
 use Rattle.of_session.specs.Session.{is_disconnected, alone}
-use Rattle.of_switch.specs.declared.event.Event.TheVariants.{Lost}
-use Rattle.of_switch.specs.Steps.{without_connection}
-use Rattle.of_switch.specs.State.{State}
+use Rattle.of_switch.specs.{declared.event.Event.TheVariants.Lost, Steps.without_connection, State.State, declared.event.Event.Event}
 use Rattle.of_serve.specs.declared.peers.Accepted.TheVariants as accepted
-use Rattle.of_serve.specs.Told.{onto, then_onto}
-use Rattle.of_switch.specs.declared.event.Event.{Event}
 use Rattle.of_serve.specs.Turns.{Gathered, gathered, broken, Input, Accepts, Reads, IsServeInput, IsTaken, ServeState, ServeTurn, IsServeTurn, given_by_input, after_serve_turn, Cut, cut_events, TurnKnowledge as OfTurn, Time, All, IsTurnKnowledge, known_events, then_known, CutTurn, IsCutTurn, cut_given, AreServeTurns, ServeTurns, failures, after_serve_turns, then_in, took, breaks}
-use Rattle.of_serve.specs.Turns.ServeTurns.{None as NoTurns, Then}
 use Rattle.of_serve.specs.Connections.{ServedConnection, connections_begun, answered, connections, begun_known, cut_connections, broken_among, AllTookPrefixes}
+use Rattle.of_serve.specs.{Told.onto, Told.then_onto, Turns.ServeTurns.None as NoTurns, Turns.ServeTurns.Then}
 
 -- a loss leaves no connection
 loses_by : (s : State) (b : Bool) → is_disconnected s.connection.phase ≡ b → is_disconnected (if b then s else (record { connection = alone; core = without_connection s.core })).connection.phase ≡ true

@@ -1,20 +1,13 @@
 -- Where memory ran out in a list of events: what those before it gave, and the messages of a chunk that were handled.
 use Rattle.std.proofs.Common.{◌≡◌, ◌⊎◌, inl, inr, ℕ, suc, zero, Bool, true, false, if◌then◌else◌, List, [], ◌∷◌, ◌++◌, drop, Option, Some, None, Result, Ok, Err, refl, sym, ◌∙◌, ap, subst, append_assoc}
-use Rattle.std.specs.Prelude.{OnErr, slice_get}
-use Rattle.std.specs.List.{flat_map}
-use Rattle.std.specs.declared.alloc.AllocError.{AllocError}
-use Rattle.std.proofs.lemmas.List.{append-nil}
-use Rattle.std.proofs.lemmas.Grind.{flat_map-append}
+use Rattle.std.{specs.Prelude.OnErr, specs.Prelude.slice_get, specs.List.flat_map, specs.declared.alloc.AllocError.AllocError, proofs.lemmas.List.append-nil, proofs.lemmas.Grind.flat_map-append}
 use Rattle.of_session.specs.Session.{is_disconnected}
 use Rattle.of_datapath.specs.declared.effect.Effect.{Effect}
-use Rattle.of_switch.specs.declared.event.Event.{Event}
 use Rattle.of_switch.specs.declared.event.Event.TheVariants.{Connect, Lost, Chunk, Frame, Moment, Ports}
-use Rattle.of_switch.specs.declared.switch_error.SwitchError.{SwitchError}
-use Rattle.of_switch.specs.declared.switch_error.SwitchError.TheVariants.{NoMemory, NotConnected}
-use Rattle.of_switch.specs.State.{State}
-use Rattle.of_switch.specs.Steps.{Outcome, gives, fed, next_of}
-use Rattle.of_switch.specs.Calls.{Call, first_error}
 use Rattle.of_switch.specs.Runs.{Report, IsInterrupted, StopsWithin, behind_effects, then_more, drain, drained, come, happened, run, unless_refusal}
+use Rattle.of_switch.specs.{declared.event.Event.Event, declared.switch_error.SwitchError.SwitchError}
+use Rattle.of_switch.specs.{declared.switch_error.SwitchError.TheVariants.NoMemory, declared.switch_error.SwitchError.TheVariants.NotConnected, State.State}
+use Rattle.of_switch.specs.{Steps.Outcome, Steps.gives, Steps.fed, Steps.next_of, Calls.Call, Calls.first_error}
 use Rattle.of_switch.proofs.Draining.{Left, left_none, left_more, left_all}
 use Rattle.of_serve.specs.Turns.{Gathered, gather, gathered, answer_in, line_in, partly, events_of_row, due, waits}
 use Rattle.of_serve.specs.Gathering.{CutIn, HandlesNext, HandlesAll, HandlesSome, LosesNext, is_one_step}

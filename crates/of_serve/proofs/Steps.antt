@@ -1,31 +1,21 @@
 -- Steps of a turn, and turns one after the other.
 use Rattle.std.proofs.Common.{◌≡◌, ◌⊎◌, inl, inr, ℕ, ◌+◌, ◌≤◌, Bool, true, false, List, [], ◌∷◌, ◌++◌, length, Option, Some, None, Result, Ok, Err, refl, sym, ◌∙◌, ap, subst, arith}
-use Rattle.std.specs.Prelude.{OnOk, OnErr}
-use Rattle.std.proofs.lemmas.List.{append-nil}
-use Rattle.std.specs.declared.alloc.AllocError.{AllocError}
+use Rattle.std.specs.Prelude.{OnOk, OnErr, not, ◌<◌, ◌↔◌}
+use Rattle.std.{specs.declared.alloc.AllocError.AllocError, specs.Io.KnownBytes.Appends, specs.Io.KnownBytes.append_known, proofs.lemmas.List.append-nil}
 use Rattle.of_session.specs.Session.{is_disconnected}
-use Rattle.of_switch.specs.declared.event.Event.{Event}
-use Rattle.of_switch.specs.declared.event.Event.TheVariants.{Connect, Moment, Lost}
-use Rattle.of_switch.specs.State.{State}
+use Rattle.of_switch.specs.{declared.event.Event.Event, declared.event.Event.TheVariants.Connect, declared.event.Event.TheVariants.Moment, declared.event.Event.TheVariants.Lost, State.State}
 use Rattle.of_switch.specs.Runs.{happened}
-use Rattle.of_replay.specs.declared.event_file.Ended.{Ended}
-use Rattle.of_replay.specs.declared.halt.Halt.{Halt}
+use Rattle.of_replay.specs.declared.event_file.Ended.TheVariants.{Done, BadRow, ReadFault, WriteFault, NoMemory}
+use Rattle.of_replay.specs.{declared.event_file.Ended.Ended, declared.halt.Halt.Halt}
 use Rattle.of_replay.specs.declared.halt.Halt.TheVariants.{Bad, Memory, Read as ReadHalt, Write}
-use Rattle.std.specs.Io.KnownBytes.{Appends, append_known}
-use Rattle.of_replay.specs.Told.{Answer}
-use Rattle.of_replay.specs.Transfer.{WrotePrefix}
+use Rattle.of_replay.{specs.Told.Answer, specs.Transfer.WrotePrefix, specs.Stepping.ended_so, proofs.TellingLemmas.appends-none, proofs.TellingLemmas.appends-then}
 use Rattle.of_serve.specs.declared.peers.Accepted.TheVariants as accepted
 use Rattle.of_serve.specs.Told.{PeerCame, accept_came, Answered, then_told, then_begun, then_onto}
 use Rattle.of_serve.specs.Turns.{Gathered, gather, gathered, nothing_pending, broken, given_by_input, cut_state, failures, due, left, heard, input_events, ServeState, standing, ServeTurn, IsTaken, IsServeTurn, Accepts, Reads, came_in, time_in, then_in, Time, All, known_came, known_times, then_known, CutTurn, cut_given, ServeTurns, after_serve_turns, turns_came, times, took, sent_lines}
-use Rattle.of_serve.specs.Turns.ServeTurns.{None as NoTurns, Then}
 use Rattle.of_serve.specs.Serves.{Tells, tells, CutShort, Passed, Serves}
 use Rattle.of_serve.specs.Gathering.{CutIn, HandlesRead, TellsReads, CutsReads, Opens, OrMemory, Learns, Cuts, Inputs, IsAnswered, ServeGoesOn, TurnStops, StopsShort, StopsShorter, ServeGoes, Counts, CountsAcceptFailure, WriteFails, SoFar}
-use Rattle.of_serve.proofs.CutLemmas.{cut_later}
-use Rattle.of_replay.specs.declared.event_file.Ended.TheVariants.{Done, BadRow, ReadFault, WriteFault, NoMemory}
+use Rattle.of_serve.{specs.Turns.ServeTurns.None as NoTurns, specs.Turns.ServeTurns.Then, proofs.CutLemmas.cut_later}
 use Rattle.of_serve.proofs.TurnLemmas.{told-nil, told-told, gathered_more}
-use Rattle.of_replay.proofs.TellingLemmas.{appends-none, appends-then}
-use Rattle.of_replay.specs.Stepping.{ended_so}
-use Rattle.std.specs.Prelude.{not, ◌<◌, ◌↔◌}
 
 -- A READ
 

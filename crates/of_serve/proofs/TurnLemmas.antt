@@ -1,11 +1,9 @@
 -- Turns: what is told, what is gathered, and the rows that are due.
 use Rattle.std.proofs.Common.{◌≡◌, ℕ, ◌+◌, suc, zero, add-one, Bool, true, false, List, [], ◌∷◌, ◌++◌, drop, length, ◌<◌, arith, if◌then◌else◌, Option, Some, None, refl, sym, ◌∙◌, ap, append_assoc}
-use Rattle.std.proofs.lemmas.List.{append-nil}
-use Rattle.std.specs.Prelude.{slice_get}
-use Rattle.of_switch.specs.declared.event.Event.{Event}
-use Rattle.of_switch.specs.Runs.{happened}
-use Rattle.of_serve.specs.Told.{then_told, onto, then_onto}
+use Rattle.std.{specs.Prelude.slice_get, proofs.lemmas.List.append-nil}
+use Rattle.of_switch.specs.{declared.event.Event.Event, Runs.happened}
 use Rattle.of_serve.specs.Turns.{Gathered, gather, gathered, due, left, events_of_row, waits}
+use Rattle.of_serve.specs.Told.{then_told, onto, then_onto}
 
 -- TOLD
 

@@ -1,22 +1,15 @@
 -- Parts of a turn, for contracts inside this crate.
 use Rattle.std.specs.Prelude.{◌≡◌, ◌⊎◌, ◌≤◌, ◌<◌, ◌+◌, ℕ, suc, Bool, true, false, List, [], ◌∷◌, ◌++◌, length, Option, Some, None as Never, Result, Ok, Err, OnOk, OnErr, if◌then◌else◌}
-use Rattle.std.specs.List.{flat_map}
-use Rattle.std.specs.declared.alloc.AllocError.{AllocError}
-use Rattle.of_switch.specs.declared.event.Event.{Event}
-use Rattle.of_switch.specs.declared.event.Event.TheVariants.{Chunk, Moment}
-use Rattle.of_switch.specs.State.{State}
-use Rattle.of_switch.specs.Steps.{Outcome, next_of}
+use Rattle.std.specs.{List.flat_map, declared.alloc.AllocError.AllocError, Io.KnownBytes.Appends}
+use Rattle.of_switch.specs.{declared.event.Event.Event, declared.event.Event.TheVariants.Chunk, declared.event.Event.TheVariants.Moment, State.State, Steps.Outcome, Steps.next_of}
 use Rattle.of_switch.specs.Runs.{unless_refusal, drain, drained}
 use Rattle.of_replay.specs.declared.halt.Halt.{Halt}
 use Rattle.of_replay.specs.declared.halt.Halt.TheVariants.{Bad, Memory, Read as ReadHalt, Write}
-use Rattle.std.specs.Io.KnownBytes.{Appends}
-use Rattle.of_replay.specs.Told.{Answer}
-use Rattle.of_replay.specs.Transfer.{WrotePrefix}
-use Rattle.of_serve.specs.declared.peers.Accepted.{Accepted}
-use Rattle.of_serve.specs.declared.peers.Accepted.TheVariants as accepted
+use Rattle.of_replay.specs.{Told.Answer, Transfer.WrotePrefix}
 use Rattle.of_serve.specs.Told.{PeerCame, accept_came, Answered, then_told, then_begun, then_onto}
 use Rattle.of_serve.specs.Turns.{Gathered, gather, gathered, answer_in, line_in, nothing_pending, broken, heard, opening_events, due, left, input_events, Reads, ServeState, ServeTurn, IsTaken, failures, IsServeTurn, given_by_input, after_serve_turn, Input, IsServeInput, rows_after_input, came_in, time_in, then_in, Cut, cut_events, cut_from, cut_state, TurnKnowledge, IsTurnKnowledge, known_events, known_came, known_times, then_known, CutTurn, cut_given, ServeTurns, None, AreServeTurns, serve_turn_count, after_serve_turns, turns_came, times, took, breaks, sent_lines}
-use Rattle.of_serve.specs.Serves.{Tells, CutShort}
+use Rattle.of_serve.specs.{declared.peers.Accepted.Accepted, Serves.Tells, Serves.CutShort}
+use Rattle.of_serve.specs.declared.peers.Accepted.TheVariants as accepted
 
 -- memory ran out in these events, after which this is gathered
 pub record CutIn (events : List Event) (g g' : Gathered) : Type 0 where

@@ -1,13 +1,12 @@
 -- How serving ends, and what was written then.
 use Rattle.std.specs.Prelude.{◌≡◌, ◌⊎◌, ◌<◌, ◌≤◌, ◌+◌, ℕ, List, [], ◌∷◌, ◌++◌, Option}
-use Rattle.of_replay.specs.declared.event_file.Ended.{Ended}
-use Rattle.of_replay.specs.declared.event_file.Ended.TheVariants.{Done, BadRow, Text, ReadFault, WriteFault, NoMemory}
 use Rattle.std.specs.Io.KnownBytes.{Appends, append_known}
-use Rattle.of_replay.specs.Transfer.{WrotePrefix}
+use Rattle.of_replay.specs.declared.event_file.Ended.TheVariants.{Done, BadRow, Text, ReadFault, WriteFault, NoMemory}
+use Rattle.of_replay.specs.{declared.event_file.Ended.Ended, Transfer.WrotePrefix}
 use Rattle.of_serve.specs.declared.peers.Accepted.TheVariants as accepted
+use Rattle.of_serve.specs.Turns.{ServeState, ServeTurn, failures, given_by_input, CutTurn, IsCutTurn, cut_given, cut_after, known_came, known_times, then_known, ServeTurns, None, Then, AreServeTurns, serve_turn_count, after_serve_turns, turns_came, times, took, breaks, sent_lines}
 use Rattle.of_serve.specs.Told.{PeerCame, accept_came, then_told, then_onto}
 use Rattle.of_switch.specs.State.{State}
-use Rattle.of_serve.specs.Turns.{ServeState, ServeTurn, failures, given_by_input, CutTurn, IsCutTurn, cut_given, cut_after, known_came, known_times, then_known, ServeTurns, None, Then, AreServeTurns, serve_turn_count, after_serve_turns, turns_came, times, took, breaks, sent_lines}
 
 -- what peers, clock and output recorded at one time
 pub record Tells : Type 0 where

@@ -2,18 +2,16 @@
 use Rattle.std.specs.Prelude.{◌≡◌, ◌<◌, ℕ, ◌+◌, suc, zero, nat_lt, Bool, true, false, List, [], ◌∷◌, ◌++◌, length, Option, None as Never, if◌then◌else◌}
 use Rattle.std.specs.List.{flat_map}
 use Rattle.of_session.specs.Session.{is_disconnected}
-use Rattle.of_datapath.specs.declared.effect.Effect.{Effect}
-use Rattle.of_datapath.specs.declared.effect.Effect.TheVariants.{Answer as Answers, Sent, Closed}
+use Rattle.of_datapath.specs.{declared.effect.Effect.Effect, declared.effect.Effect.TheVariants.Answer as Answers, declared.effect.Effect.TheVariants.Sent, declared.effect.Effect.TheVariants.Closed}
+use Rattle.of_switch.specs.Runs.{Report, Gives, IsRefused, Happened, happened, come, drain, unless_refusal}
 use Rattle.of_switch.specs.declared.event.Event.{Event}
 use Rattle.of_switch.specs.declared.event.Event.TheVariants.{Connect, Lost, Chunk, Moment}
-use Rattle.of_switch.specs.State.{State}
-use Rattle.of_switch.specs.Steps.{Outcome, gives}
-use Rattle.of_switch.specs.Runs.{Report, Gives, IsRefused, Happened, happened, come, drain, unless_refusal}
-use Rattle.of_replay.specs.Output.{line_of}
+use Rattle.of_switch.specs.{State.State, Steps.Outcome, Steps.gives}
 use Rattle.of_replay.specs.Told.{Answer, Gave, Idle, Ended, Failed}
+use Rattle.of_replay.specs.Output.{line_of}
+use Rattle.of_serve.specs.Told.{PeerCame, accept_came, Answered, then_begun, then_onto}
 use Rattle.of_serve.specs.declared.peers.Accepted.{Accepted}
 use Rattle.of_serve.specs.declared.peers.Accepted.TheVariants as accepted
-use Rattle.of_serve.specs.Told.{PeerCame, accept_came, Answered, then_begun, then_onto}
 
 -- ROWS OF THE FILE THAT ARE DUE: those before the first `t` row that the clock has not reached
 

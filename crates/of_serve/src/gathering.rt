@@ -2,8 +2,7 @@
 ghost use Rattle.std.specs.Prelude.{◌≡◌, ◌⊎◌, ◌≤◌, ◌++◌, ◌∷◌, [], Err as Failed, length, take, drop, OnOk, OnErr, IfOk, IfErr, true, not};
 ghost use Rattle.std.specs.List.{flat_map};
 ghost use Rattle.of_session.specs.Session.{is_disconnected};
-ghost use Rattle.of_switch.specs.declared.event.Event.TheVariants.{Lost as Loss, Chunk as Received};
-ghost use Rattle.of_switch.specs.declared.switch_error.SwitchError.TheVariants.{NoMemory};
+ghost use Rattle.of_switch.specs.{declared.event.Event.TheVariants.Lost as Loss, declared.event.Event.TheVariants.Chunk as Received, declared.switch_error.SwitchError.TheVariants.NoMemory};
 ghost use Rattle.of_serve.specs.Turns.{events_of_row, answer_in, due as rows_due, nothing_pending, gathered, left, line_in, waits as has_to_wait};
 ghost use Rattle.of_serve.specs.Gathering.{CutIn, HandlesAll, HandlesNext, HandlesSome, LosesNext, is_one_step};
 

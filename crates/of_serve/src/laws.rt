@@ -1,9 +1,8 @@
 //! Laws of serving.
 ghost use Rattle.std.specs.Prelude.{◌≡◌, ◌+◌, [], Some, map, true};
 ghost use Rattle.of_session.specs.Session.{is_disconnected};
-ghost use Rattle.of_serve.specs.Told.{then_onto};
 ghost use Rattle.of_serve.specs.Turns.{ServeState, CutTurn, IsCutTurn, ServeTurns, AreServeTurns, failures, after_serve_turns, then_known, took, breaks};
-ghost use Rattle.of_serve.specs.Connections.{AllTookPrefixes, broken_among, connections, cut_connections};
+ghost use Rattle.of_serve.specs.{Told.then_onto, Connections.AllTookPrefixes, Connections.broken_among, Connections.connections, Connections.cut_connections};
 
 /// What each connection took is all that the switch answered it, or where a write to it failed a prefix of that; and as
 /// many writes failed as there are connections to which one failed. So it is with a turn at the end that running out of

@@ -1,6 +1,5 @@
 //! Rows of an event file that are still to come.
-ghost use Rattle.std.specs.Prelude.{◌≡◌, ◌<◌, ◌≤◌, ◌∷◌, [], length, drop};
-ghost use Rattle.std.specs.Prelude.{slice_get};
+ghost use Rattle.std.specs.Prelude.{◌≡◌, ◌<◌, ◌≤◌, ◌∷◌, [], length, drop, slice_get};
 ghost use Rattle.std.specs.Option.{option_map};
 
 use of_switch::Event;

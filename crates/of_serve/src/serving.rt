@@ -1,10 +1,8 @@
 //! Serving controllers.
 ghost use Rattle.std.specs.Prelude.{◌≡◌, ◌<◌, ◌≤◌, ◌↔◌, ◌+◌, length, OnOk};
 ghost use Rattle.of_switch.specs.State.{State, start};
-ghost use Rattle.of_serve.specs.Turns.{nothing_pending, standing};
-ghost use Rattle.of_serve.specs.Serves.{Serves, tells};
+ghost use Rattle.of_serve.specs.{Turns.nothing_pending, Turns.standing, Serves.Serves, Serves.tells, Gathering.CountsAcceptFailure, Gathering.WriteFails};
 ghost use Rattle.of_replay.specs.Stepping.{ended_so};
-ghost use Rattle.of_serve.specs.Gathering.{CountsAcceptFailure, WriteFails};
 
 use crate::gathering::Gathering;
 use crate::peers::{Clock, Peers};

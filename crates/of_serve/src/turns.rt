@@ -1,9 +1,7 @@
 //! Turns: an accept or a read, what it gives, and that written.
-ghost use Rattle.std.specs.Prelude.{◌≡◌, ◌≤◌, ◌<◌, ◌^◌, ◌+◌, [], length, OnOk, OnErr};
-ghost use Rattle.std.specs.Prelude.{ℕ, List, Option};
-ghost use Rattle.of_serve.specs.Turns.{nothing_pending, standing};
-ghost use Rattle.of_serve.specs.Serves.{tells};
+ghost use Rattle.std.specs.Prelude.{◌≡◌, ◌≤◌, ◌<◌, ◌^◌, ◌+◌, [], length, OnOk, OnErr, ℕ, List, Option};
 ghost use Rattle.of_serve.specs.Gathering.{failed_writes, Counts, CutsReads, CountsAcceptFailure, ServeGoes, HandlesRead, Inputs, IsAnswered, Opens, OrMemory, TakesAnswers, TellsReads, WriteFails};
+ghost use Rattle.of_serve.specs.{Turns.nothing_pending, Turns.standing, Serves.tells};
 
 use crate::gathering::Gathering;
 use crate::peers::{Accepted, Clock, Peers};

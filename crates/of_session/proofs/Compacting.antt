@@ -1,7 +1,6 @@
 -- A list whose first elements were taken.
 use Rattle.std.proofs.Common.{◌≡◌, ℕ, ◌+◌, ◌-◌, ◌*◌, ◌≤◌, List, ◌++◌, length, take, drop, sym, ◌∙◌, ap, arith}
-use Rattle.std.specs.List.{copy_within}
-use Rattle.std.proofs.lemmas.List.{take_all, drop-drop, length-drop, drop-append-le}
+use Rattle.std.{specs.List.copy_within, proofs.lemmas.List.take_all, proofs.lemmas.List.drop-drop, proofs.lemmas.List.length-drop, proofs.lemmas.List.drop-append-le}
 use Rattle.std.proofs.lemmas.List.Edits.{take-paste}
 
 pub drop_append : (n : ℕ) (xs ys : List ℕ) → 2 * n ≤ length xs → drop n (xs ++ ys) ≡ drop n xs ++ ys

@@ -2,18 +2,13 @@
 use Rattle.std.proofs.Common.{◌≡◌, ℕ, ◌≤◌, Bool, true, false, cond, List, ◌++◌, length, take, Result, Ok, Err, sym, ◌∙◌, ap, arith, append_assoc, length-append}
 use Rattle.std.proofs.lemmas.List.{take-append-drop, take-append-le, length-take}
 use Rattle.of_wire.specs.declared.code.Code.{Code}
-use Rattle.of_messages.specs.declared.message.Message.{Message}
-use Rattle.of_messages.specs.declared.role.Role.{Role}
-use Rattle.of_messages.specs.Heads.{xid_of}
-use Rattle.of_messages.specs.Messages.{message_from}
-use Rattle.of_session.specs.declared.session.Phase.{Phase}
-use Rattle.of_session.specs.declared.session.Phase.TheVariants.{Disconnected, Greeting, Open}
-use Rattle.of_session.specs.declared.session.Next.{Next}
+use Rattle.of_messages.specs.{declared.message.Message.Message, declared.role.Role.Role, Heads.xid_of, Messages.message_from}
 use Rattle.of_session.specs.declared.session.Next.TheVariants.{Nothing, BadStream, NotHello, Opened, Read, Refused}
 use Rattle.of_session.specs.Stream.{First, Whole, Bad, Partial, beginning_of, length_of, IsWholeMessage}
 use Rattle.of_session.specs.Session.{Connection, is_disconnected, with_received, is_first_hello, read_as, judged, next_by_beginning, next_of_connection}
 use Rattle.of_session.proofs.Fronts.{Looks, looks, length_of-append, message_front, malformed_front}
-use Rattle.of_session.proofs.Splitting.{front_message}
+use Rattle.of_session.specs.{declared.session.Phase.Phase, declared.session.Phase.TheVariants.Disconnected, declared.session.Phase.TheVariants.Greeting, declared.session.Phase.TheVariants.Open}
+use Rattle.of_session.{specs.declared.session.Next.Next, proofs.Splitting.front_message}
 
 -- a message that comes next has a header and was received whole; so was a malformed header
 abbrev pub IsSizedIn : Next → List ℕ → Type 0

@@ -1,18 +1,12 @@
 -- A controller's connection (OpenFlow 1.3.5, 6.3.1): its phase, and what comes next.
 use Rattle.std.specs.Prelude.{◌≡◌, ℕ, ◌==◌, ◌&&◌, Bool, true, false, ◌≤◌, List, [], ◌++◌, length, take, drop, Result, Ok, Err, if◌then◌else◌}
 use Rattle.of_wire.specs.declared.code.Code.{Code}
-use Rattle.of_messages.specs.declared.message.Message.{Message}
-use Rattle.of_messages.specs.declared.role.Role.{Role}
+use Rattle.of_messages.specs.{declared.message.Message.Message, declared.role.Role.Role, Heads.type_of, Heads.xid_of, Hellos.version_by, Messages.message_from, Promised.IsSoundMessage}
 use Rattle.of_formats.specs.declared.messages.TheConstants.{HELLO}
-use Rattle.of_messages.specs.Heads.{type_of, xid_of}
-use Rattle.of_messages.specs.Hellos.{version_by}
-use Rattle.of_messages.specs.Messages.{message_from}
-use Rattle.of_messages.specs.Promised.{IsSoundMessage}
-use Rattle.of_session.specs.declared.session.Phase.{Phase}
-use Rattle.of_session.specs.declared.session.Phase.TheVariants.{Disconnected, Greeting, Open}
-use Rattle.of_session.specs.declared.session.Next.{Next}
 use Rattle.of_session.specs.declared.session.Next.TheVariants.{Nothing, BadStream, NotHello, Opened, Read, Refused}
 use Rattle.of_session.specs.Stream.{First, Whole, Bad, Partial, beginning_of}
+use Rattle.of_session.specs.{declared.session.Phase.Phase, declared.session.Phase.TheVariants.Disconnected, declared.session.Phase.TheVariants.Greeting, declared.session.Phase.TheVariants.Open}
+use Rattle.of_session.specs.declared.session.Next.{Next}
 
 -- its phase, and the bytes that were received and not yet handled
 pub record Connection : Type 0 where

@@ -1,7 +1,6 @@
 //! A controller's connection: its stream, and which messages of it are handled.
 ghost use Rattle.std.specs.Prelude.{◌≡◌, ◌++◌, ◌≤◌, length, take, [], OnOk, OnErr, IfOk};
-ghost use Rattle.of_messages.specs.Heads.{xid_of};
-ghost use Rattle.of_messages.specs.declared.role.Role.{Role as ARole};
+ghost use Rattle.of_messages.specs.{Heads.xid_of, declared.role.Role.Role as ARole};
 ghost use Rattle.of_session.specs.Session.{next_of_connection, with_received, is_first_hello, judged, next_greeting as greeting_of, entered, IsNextReceived, IsSoundNext, IsNextSized};
 
 use crate::stream::{Beginning, HEADER, Stream};

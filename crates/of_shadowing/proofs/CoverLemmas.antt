@@ -1,24 +1,15 @@
 -- Flows that one flow covers.
 use Rattle.std.proofs.Common.{◌≡◌, ℕ, true, false, Option, Some, None, List, [], ◌∷◌, refl, sym, ap, subst, ◌∙◌, arith, inl, inr}
-use Rattle.std.specs.Prelude.{IfSome, slice_get}
-use Rattle.std.specs.List.{All, Contains}
-use Rattle.std.specs.Option.{option_map}
+use Rattle.std.specs.{Prelude.IfSome, Prelude.slice_get, List.All, List.Contains, Option.option_map}
 use Rattle.of_layers.specs.declared.field.Field.{Field}
 use Rattle.of_headers.specs.FieldMap.{seen}
-use Rattle.of_oxm.specs.declared.match_field.MatchField.{MatchField}
-use Rattle.of_oxm.specs.Masks.{first_at, value_of}
-use Rattle.of_oxm.specs.NormalForm.{IsKept, IsMatch}
+use Rattle.of_oxm.specs.{declared.match_field.MatchField.MatchField, Masks.first_at, Masks.value_of, NormalForm.IsKept, NormalForm.IsMatch}
 use Rattle.of_oxm.specs.Relations.{bits_looked_at, covers_match, matches_map, overlaps_match}
-use Rattle.of_oxm.proofs.Joined.{covered as covered_value, found_if}
-use Rattle.of_oxm.proofs.Related.{and_true, covered_matched, matched_overlap}
-use Rattle.of_oxm.proofs.Seen.{seen_matched}
-use Rattle.of_regions.specs.declared.rival.Rival.{Rival}
-use Rattle.of_regions.proofs.NamingLemmas.{first_or_behind}
+use Rattle.of_oxm.proofs.{Joined.covered as covered_value, Joined.found_if, Related.and_true, Related.covered_matched, Related.matched_overlap, Seen.seen_matched}
+use Rattle.of_regions.{specs.declared.rival.Rival.Rival, proofs.NamingLemmas.first_or_behind}
 use Rattle.of_check.specs.Verdicts.{IsPacket, fields_of}
-use Rattle.of_shadowing.specs.declared.listed_flow.ListedFlow.{ListedFlow}
-use Rattle.of_shadowing.specs.Worlds.{World, all_hold, says_word, takes_world}
 use Rattle.of_shadowing.specs.Shadows.{AreFlowRivals, FlowCovers, FlowGoesBefore, FlowNeverWins, SomeTakes, Takes, is_covering_flow}
-use Rattle.of_shadowing.proofs.RivalLemmas.{one_flow}
+use Rattle.of_shadowing.{specs.declared.listed_flow.ListedFlow.ListedFlow, specs.Worlds.World, specs.Worlds.all_hold, specs.Worlds.says_word, specs.Worlds.takes_world, proofs.RivalLemmas.one_flow}
 use Rattle.of_shadowing.proofs.WordLemmas.{both, hold_among}
 
 module _ (covered : (d m : List MatchField) (map : Field → Option ℕ) → covers_match d m ≡ true → matches_map m map ≡ true → matches_map d map ≡ true) where

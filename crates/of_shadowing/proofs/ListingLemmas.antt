@@ -1,25 +1,16 @@
 -- What lines say, one after the other, as it lies in memory.
 use Rattle.std.proofs.Common.{◌≡◌, ℕ, ◌+◌, ◌<◌, Bool, true, false, cond, List, [], ◌∷◌, ◌++◌, length, Option, Some, None, refl, sym, ap, ◌∙◌}
 use Rattle.std.specs.Prelude.{◌&&◌, filter, find, map, not}
-use Rattle.std.specs.List.{list_all, list_any}
-use Rattle.std.specs.Option.{option_map}
-use Rattle.std.specs.Str.{bytes_eq}
-use Rattle.std.specs.Global.{Vec}
-use Rattle.std.proofs.lemmas.List.{map-append}
+use Rattle.std.{specs.List.list_all, specs.List.list_any, specs.Option.option_map, specs.Str.bytes_eq, specs.Global.Vec, proofs.lemmas.List.map-append}
 use Rattle.of_oxm.specs.declared.match_field.MatchField.{MatchField}
-use Rattle.of_ovs_words.specs.declared.why.Why.{Why}
+use Rattle.of_ovs_words.specs.{declared.why.Why.Why, Words.word_name}
 use Rattle.of_ovs_lines.specs.PartialFlows.{Refusal}
-use Rattle.of_shadowing.specs.declared.conditions.Need.{Need}
-use Rattle.of_shadowing.specs.Conditions.{need_of_word}
-use Rattle.of_text.specs.Lines.{before, behind, lines_of}
-use Rattle.of_text.proofs.TextLemmas.{first_line}
+use Rattle.of_shadowing.specs.Listings.{Listing, are_among_words, is_same_flow, is_word_met, listed_line, listing_from, unmet_fault, why_of, with_listed, with_flow_listed}
+use Rattle.of_shadowing.specs.{declared.conditions.Need.Need, Conditions.need_of_word, declared.listed_flow.ListedFlow.ListedFlow, ListingViews.view_flow}
+use Rattle.of_shadowing.specs.LineWords.{is_field_of, with_word_named}
+use Rattle.of_text.{specs.Lines.before, specs.Lines.behind, specs.Lines.lines_of, proofs.TextLemmas.first_line}
 use Rattle.of_values.specs.Origins.{view_words}
 use Rattle.of_import.proofs.ParsedLinesLemmas.{any_mapped, filter_mapped}
-use Rattle.of_ovs_words.specs.Words.{word_name}
-use Rattle.of_shadowing.specs.declared.listed_flow.ListedFlow.{ListedFlow}
-use Rattle.of_shadowing.specs.Listings.{Listing, are_among_words, is_same_flow, is_word_met, listed_line, listing_from, unmet_fault, why_of, with_listed, with_flow_listed}
-use Rattle.of_shadowing.specs.ListingViews.{view_flow}
-use Rattle.of_shadowing.specs.LineWords.{is_field_of, with_word_named}
 
 -- ---- words
 

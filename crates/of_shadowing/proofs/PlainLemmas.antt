@@ -1,17 +1,12 @@
 -- Flows without conditions, and the entries of a table.
 use Rattle.std.proofs.Common.{◌≡◌, ℕ, ◌<◌, ◌⊎◌, Bool, true, false, Some, List, [], refl, sym, ap, ◌∙◌, arith, inl, inr}
 use Rattle.std.specs.Prelude.{slice_get}
-use Rattle.of_oxm.specs.declared.match_field.MatchField.{MatchField}
-use Rattle.of_oxm.specs.Relations.{matches_map}
-use Rattle.of_oxm.proofs.Related.{and_true}
+use Rattle.of_oxm.{specs.declared.match_field.MatchField.MatchField, specs.Relations.matches_map, proofs.Related.and_true}
 use Rattle.of_table.specs.Table.{FlowEntry}
 use Rattle.of_check.specs.Verdicts as entries
-use Rattle.of_check.specs.Verdicts.{IsPacket, Packet, fields_of}
-use Rattle.of_check.proofs.WinnerLemmas.{wins_alone}
-use Rattle.of_shadowing.specs.declared.listed_flow.ListedFlow.{ListedFlow}
-use Rattle.of_shadowing.specs.Plain.{ArePlain}
+use Rattle.of_check.{specs.Verdicts.IsPacket, specs.Verdicts.Packet, specs.Verdicts.fields_of, proofs.WinnerLemmas.wins_alone}
 use Rattle.of_shadowing.specs.Shadows.{FlowCovers, FlowGoesBefore, FlowNeverWins, Takes, FlowTakesRegion, WinsIn, FlowWinsWith}
-use Rattle.of_shadowing.specs.Worlds.{World, all_hold, own_world, says_word}
+use Rattle.of_shadowing.specs.{declared.listed_flow.ListedFlow.ListedFlow, Plain.ArePlain, Worlds.World, Worlds.all_hold, Worlds.own_world, Worlds.says_word}
 use Rattle.of_shadowing.proofs.WordLemmas.{both}
 
 pub wins_nowhere : (flows : List ListedFlow) (k : ℕ) (by : List ℕ) → FlowNeverWins flows k by → (w : World) → IsPacket w.packet → ¬ (WinsIn flows k w)

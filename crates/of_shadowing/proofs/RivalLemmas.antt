@@ -1,30 +1,17 @@
 -- The flows that go before one, and what a search among them says.
 use Rattle.std.proofs.Common.{◌≡◌, ℕ, ◌+◌, ◌<◌, ◌≤◌, ◌⊎◌, ◌^◌, true, false, Option, Some, None, List, [], ◌∷◌, ◌++◌, length, sym, ap, subst, ◌∙◌, arith, inl, inr, below_more}
-use Rattle.std.specs.Prelude.{slice_get}
-use Rattle.std.specs.List.{AllByRecursion, Contains}
-use Rattle.std.proofs.lemmas.List.Elements.{Contains-append_left, Contains-push, Contains-push_cases}
-use Rattle.std.proofs.lemmas.Bool.{cases_lt}
-use Rattle.std.proofs.lemmas.Option.{slice_get_past}
-use Rattle.of_layers.specs.declared.field.Field.{Field}
-use Rattle.of_layers.specs.Reading.{layers_of}
-use Rattle.of_oxm.specs.declared.match_field.MatchField.{MatchField}
-use Rattle.of_oxm.specs.NormalForm.{IsKept, IsMatch}
-use Rattle.of_oxm.specs.Relations.{matches_map, overlaps_match}
+use Rattle.std.specs.{Prelude.slice_get, List.AllByRecursion, List.Contains}
+use Rattle.std.proofs.{lemmas.List.Elements.Contains-append_left, lemmas.List.Elements.Contains-push, lemmas.List.Elements.Contains-push_cases, lemmas.Bool.cases_lt, lemmas.Option.slice_get_past}
+use Rattle.of_layers.specs.{declared.field.Field.Field, Reading.layers_of}
+use Rattle.of_oxm.specs.{declared.match_field.MatchField.MatchField, NormalForm.IsKept, NormalForm.IsMatch, Relations.matches_map, Relations.overlaps_match}
 use Rattle.of_oxm.proofs.Related.{and_true}
-use Rattle.of_frames.specs.Rules.{shape_of, tagging_of}
-use Rattle.of_frames.proofs.Shapes.{shaped, tags_seen}
-use Rattle.of_regions.specs.declared.rival.Rival.{Rival}
-use Rattle.of_regions.specs.declared.witness.Packet.{Packet as PacketFound}
-use Rattle.of_regions.specs.declared.region.Region.{Region}
-use Rattle.of_regions.specs.Conditions.{AreConditions}
-use Rattle.of_regions.proofs.NarrowingLemmas.{kept_condition}
-use Rattle.of_regions.specs.Searching.{AreTaking, IsFreePacket, IsStart}
-use Rattle.of_regions.specs.Witness.{IsIngressPort, fields_in}
+use Rattle.of_frames.{specs.Rules.shape_of, specs.Rules.tagging_of, proofs.Shapes.shaped, proofs.Shapes.tags_seen}
+use Rattle.of_regions.specs.{declared.rival.Rival.Rival, declared.witness.Packet.Packet as PacketFound, declared.region.Region.Region, Conditions.AreConditions}
+use Rattle.of_regions.{specs.Searching.AreTaking, specs.Searching.IsFreePacket, specs.Searching.IsStart, specs.Witness.IsIngressPort, specs.Witness.fields_in, proofs.NarrowingLemmas.kept_condition}
 use Rattle.of_check.specs.Verdicts.{IsPacket, Packet, fields_of}
-use Rattle.of_shadowing.specs.declared.listed_flow.ListedFlow.{ListedFlow}
 use Rattle.of_shadowing.specs.Worlds.{World, all_hold, own_world, says_word, takes_world}
 use Rattle.of_shadowing.specs.Shadows.{AreFlowRivals, FlowGoesBefore, FlowNeverWins, Precedes, SomeTakes, Takes, FlowTakesRegion, FlowWinsWith}
-use Rattle.of_shadowing.proofs.WordLemmas.{both, hold_among, says_own}
+use Rattle.of_shadowing.{specs.declared.listed_flow.ListedFlow.ListedFlow, proofs.WordLemmas.both, proofs.WordLemmas.hold_among, proofs.WordLemmas.says_own}
 
 pub one_flow : (flows : List ListedFlow) (j : ℕ) (a b : ListedFlow) → slice_get flows j ≡ Some a → slice_get flows j ≡ Some b → a ≡ b
 one_flow flows j a b at is = cc

@@ -1,9 +1,7 @@
 -- Whether a name is one of the rows of a table.
 use Rattle.std.proofs.Common.{◌≡◌, ℕ, ◌<◌, true, false, List, [], length, refl, sym, ap, ◌∙◌}
-use Rattle.std.specs.Prelude.{◌||◌}
-use Rattle.std.specs.Str.{bytes_eq}
-use Rattle.of_text.specs.Lines.{before, behind, lines_of}
-use Rattle.of_text.proofs.TextLemmas.{first_line}
+use Rattle.std.specs.{Prelude.◌||◌, Str.bytes_eq}
+use Rattle.of_text.{specs.Lines.before, specs.Lines.behind, specs.Lines.lines_of, proofs.TextLemmas.first_line}
 use Rattle.of_shadowing.specs.Conditions.{is_row_of}
 
 row_next : (name rest : List ℕ) → 0 < length rest → is_row_of (lines_of rest) name ≡ (bytes_eq (before 10 rest) name || is_row_of (lines_of (behind 10 rest)) name)

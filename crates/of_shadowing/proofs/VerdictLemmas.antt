@@ -2,8 +2,7 @@
 use Rattle.std.proofs.Common.{◌≡◌, ℕ, ◌+◌, ◌<◌, ◌≤◌, zero, suc, Option, Some, List, [], ◌∷◌, ◌++◌, length, refl, sym, ap, subst, ◌∙◌, arith}
 use Rattle.std.specs.Prelude.{IfSome, slice_get}
 use Rattle.of_check.specs.declared.finding.Finding.{Finding}
-use Rattle.of_shadowing.specs.declared.listed_flow.ListedFlow.{ListedFlow}
-use Rattle.of_shadowing.specs.Shadows.{AreVerdicts, IsFindingOn, FlowVerdictHolds}
+use Rattle.of_shadowing.specs.{declared.listed_flow.ListedFlow.ListedFlow, Shadows.AreVerdicts, Shadows.IsFindingOn, Shadows.FlowVerdictHolds}
 
 -- one finding on each of the first flows
 pub record AreVerdictsBelow (flows : List ListedFlow) (steps : ℕ) (findings : List Finding) (n : ℕ) : Type 0 where

@@ -1,13 +1,8 @@
 -- Words that hold where others do.
 use Rattle.std.proofs.Common.{◌≡◌, ℕ, Bool, true, false, List, [], ◌∷◌, refl, subst}
-use Rattle.std.specs.Prelude.{◌&&◌, ◌||◌}
-use Rattle.std.specs.List.{list_all, list_any}
-use Rattle.std.specs.Str.{bytes_eq}
-use Rattle.std.specs.Global.{Vec}
-use Rattle.std.proofs.lemmas.Slice.Eq.{bytes_eq-Decides}
+use Rattle.std.{specs.Prelude.◌&&◌, specs.Prelude.◌||◌, specs.List.list_all, specs.List.list_any, specs.Str.bytes_eq, specs.Global.Vec, proofs.lemmas.Slice.Eq.bytes_eq-Decides}
 use Rattle.of_oxm.proofs.Related.{and_true}
-use Rattle.of_shadowing.specs.declared.listed_flow.ListedFlow.{ListedFlow}
-use Rattle.of_shadowing.specs.Worlds.{all_hold, says_word}
+use Rattle.of_shadowing.specs.{declared.listed_flow.ListedFlow.ListedFlow, Worlds.all_hold, Worlds.says_word}
 
 pub both : (a b : Bool) → a ≡ true → b ≡ true → (a && b) ≡ true
 both true b p q = q

@@ -1,20 +1,15 @@
 -- WORDS THAT ARE CONDITIONS OF THEIR OWN: match fields of Open vSwitch that OpenFlow 1.3 or this switch does not have (ovs-fields(7)).
 use Rattle.std.specs.Prelude.{ℕ, ◌==◌, ◌&&◌, ◌||◌, not, nat_le, Bool, true, is_some, List, [], ◌∷◌, length, codes, Option, Some, None, if◌then◌else◌}
-use Rattle.std.specs.List.{list_any}
-use Rattle.std.specs.Str.{bytes_eq}
-use Rattle.of_layers.specs.declared.field.Field.{Field}
+use Rattle.std.specs.{List.list_any, Str.bytes_eq}
 use Rattle.of_layers.specs.declared.field.Field.TheVariants.{EthType, Icmpv6Type, InPort, IpProto, TcpDst, TcpSrc, UdpDst, UdpSrc}
+use Rattle.of_layers.specs.{declared.field.Field.Field, Fields.number_of}
 use Rattle.of_layers.specs.declared.field.Prerequisite.TheVariants as needs
-use Rattle.of_layers.specs.Fields.{number_of}
-use Rattle.of_oxm.specs.declared.match_field.MatchField.{MatchField}
-use Rattle.of_oxm.specs.Prerequisites.{is_met}
+use Rattle.of_oxm.specs.{declared.match_field.MatchField.MatchField, Prerequisites.is_met}
 use Rattle.of_text.specs.Lines.{behind, lines_of}
-use Rattle.of_ovs_words.specs.Words.{word_name, word_value}
-use Rattle.of_ovs_words.specs.declared.why.Why.{Why}
+use Rattle.of_ovs_words.specs.{Words.word_name, Words.word_value, declared.why.Why.Why}
 use Rattle.of_ovs_words.specs.declared.why.Why.TheVariants as whys
-use Rattle.of_shadowing.specs.declared.conditions.Need.{Need}
 use Rattle.of_shadowing.specs.declared.conditions.Need.TheVariants.{Nothing, NoPort, NoSource, NoDestination, Ip, Tcp, Sctp, Mpls, Nsh, Neighbor, Solicitation, Advertisement}
-use Rattle.of_shadowing.specs.declared.conditions.TheConstants.{OF_ANY, OF_ARP, OF_NSH}
+use Rattle.of_shadowing.specs.{declared.conditions.Need.Need, declared.conditions.TheConstants.OF_ANY, declared.conditions.TheConstants.OF_ARP, declared.conditions.TheConstants.OF_NSH}
 
 abbrev pub is_row_of : List (List ℕ) → List ℕ → Bool
 is_row_of rows name = list_any (λ row. bytes_eq row name) rows

@@ -1,13 +1,9 @@
 -- WHERE ACTIONS LEAD (ovs-actions(7)): the numbers behind `goto_table`, behind `table=` as in `ct(table=N)`, and at the second place of `resubmit(PORT,N)`, also within other actions.
 use Rattle.std.specs.Prelude.{ℕ, ◌==◌, ◌&&◌, ◌||◌, Bool, true, false, List, [], ◌∷◌, ◌++◌, length, codes, Option, Some, None, if◌then◌else◌}
-use Rattle.std.specs.List.{fold}
-use Rattle.std.specs.Str.{str_eq_ignore_ascii_case}
-use Rattle.of_ovs_words.specs.Numbers.{number_in}
-use Rattle.of_ovs_words.specs.Words.{is_gap, word_name, word_value}
-use Rattle.of_shadowing.specs.declared.leads.Next.{Next}
-use Rattle.of_shadowing.specs.declared.leads.Next.TheVariants.{Name, Port, Table}
-use Rattle.of_shadowing.specs.declared.leads.Leads.{Leads as Declared}
-use Rattle.of_shadowing.specs.declared.leads.Scan.{Scan as DeclaredScan}
+use Rattle.std.specs.{List.fold, Str.str_eq_ignore_ascii_case}
+use Rattle.of_ovs_words.specs.{Numbers.number_in, Words.is_gap, Words.word_name, Words.word_value}
+use Rattle.of_shadowing.specs.{declared.leads.Next.Next, declared.leads.Next.TheVariants.Name, declared.leads.Next.TheVariants.Port, declared.leads.Next.TheVariants.Table}
+use Rattle.of_shadowing.specs.{declared.leads.Leads.Leads as Declared, declared.leads.Scan.Scan as DeclaredScan}
 
 -- the text is read piece by piece
 pub record Scan : Type 0 where

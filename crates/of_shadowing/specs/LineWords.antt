@@ -3,8 +3,7 @@ use Rattle.std.specs.Prelude.{ℕ, ◌&&◌, ◌||◌, not, Bool, true, false, L
 use Rattle.std.specs.Str.{bytes_eq, str_eq_ignore_ascii_case}
 use Rattle.of_ovs_words.specs.Words.{word_name, word_value}
 use Rattle.of_ovs_lines.specs.PartialFlows.{begins_actions}
-use Rattle.of_shadowing.specs.Conditions.{is_arp_field, is_condition, is_fragments}
-use Rattle.of_shadowing.specs.Leads.{Scan, no_scan, with_action_led}
+use Rattle.of_shadowing.specs.{Conditions.is_arp_field, Conditions.is_condition, Conditions.is_fragments, Leads.Scan, Leads.no_scan, Leads.with_action_led}
 
 pub record LineWords : Type 0 where
   -- those that are no conditions, and `actions=drop` in place of all actions

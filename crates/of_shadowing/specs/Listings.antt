@@ -1,21 +1,15 @@
 -- WHAT THE LINES OF A FILE OF OVS-OFCTL SAY, if match fields that OpenFlow 1.3 does not have are conditions of their own.
 use Rattle.std.specs.Prelude.{ℕ, ◌+◌, ◌==◌, ◌&&◌, not, Bool, true, List, [], ◌∷◌, ◌++◌, codes, decimal, filter, find, Option, Some, None, if◌then◌else◌}
-use Rattle.std.specs.List.{list_all, list_any}
-use Rattle.std.specs.Str.{bytes_eq}
-use Rattle.of_oxm.specs.declared.match_field.MatchField.{MatchField}
-use Rattle.of_oxm.specs.SameMatch.{is_same_match}
+use Rattle.std.specs.{List.list_all, List.list_any, Str.bytes_eq}
+use Rattle.of_oxm.specs.{declared.match_field.MatchField.MatchField, SameMatch.is_same_match}
 use Rattle.of_frame_words.specs.Fields.{is_match}
-use Rattle.of_text.specs.Flows.{Flow as TextFlow}
-use Rattle.of_text.specs.Lines.{before}
+use Rattle.of_text.specs.{Flows.Flow as TextFlow, Lines.before}
 use Rattle.of_ovs_words.specs.declared.why.Why.TheVariants as whys
 use Rattle.of_ovs_words.specs.Words.{words_from}
-use Rattle.of_ovs_lines.specs.PartialFlows.{Refusal}
+use Rattle.of_ovs_lines.specs.{PartialFlows.Refusal, LineContents.begins_group, LineContents.parsed_line, LineContents.trimmed, LineContents.with_words}
 use Rattle.of_ovs_lines.specs.LineContents as lines
-use Rattle.of_ovs_lines.specs.LineContents.{begins_group, parsed_line, trimmed, with_words}
-use Rattle.of_shadowing.specs.declared.conditions.Need.{Need}
-use Rattle.of_shadowing.specs.declared.listing.TheConstants.{ANY_TABLE, NO_TABLE}
-use Rattle.of_shadowing.specs.Conditions.{is_need_met, need_of_word, why_unmet}
-use Rattle.of_shadowing.specs.LineWords.{LineWords, no_line_words, with_line_word}
+use Rattle.of_shadowing.specs.{declared.conditions.Need.Need, declared.listing.TheConstants.ANY_TABLE, declared.listing.TheConstants.NO_TABLE}
+use Rattle.of_shadowing.specs.{Conditions.is_need_met, Conditions.need_of_word, Conditions.why_unmet, LineWords.LineWords, LineWords.no_line_words, LineWords.with_line_word}
 
 -- a flow: its line, its table, its priority, its match, its conditions, and where its actions lead
 pub record ListedText : Type 0 where

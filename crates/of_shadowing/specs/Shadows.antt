@@ -2,21 +2,13 @@
 use Rattle.std.specs.Prelude.{◌≡◌, ℕ, ◌<◌, ◌≤◌, ◌⊎◌, ◌==◌, Bool, true, false, List, length, Option, Some, None, IfSome, slice_get}
 use Rattle.std.specs.List.{Contains, list_any}
 use Rattle.of_layers.specs.declared.field.Field.{Field}
-use Rattle.of_oxm.specs.declared.match_field.MatchField.{MatchField}
-use Rattle.of_oxm.specs.Relations.{covers_match, matches_map, overlaps_match}
-use Rattle.of_regions.specs.declared.region.Region.{Region}
-use Rattle.of_regions.specs.declared.rival.Rival.{Rival}
-use Rattle.of_regions.specs.Conditions.{AreConditions}
-use Rattle.of_regions.specs.Naming.{AreAscending}
-use Rattle.of_regions.specs.Regions.{InRegion}
-use Rattle.of_regions.specs.Searching.{IsStart, IsUndecided, LeavesUnreceived}
-use Rattle.of_regions.specs.Witness.{IsIngressPort}
-use Rattle.of_check.specs.Verdicts.{IsPacket, Packet}
-use Rattle.of_check.specs.declared.finding.Finding.{Finding}
-use Rattle.of_check.specs.declared.verdict.Verdict.{Verdict}
+use Rattle.of_oxm.specs.{declared.match_field.MatchField.MatchField, Relations.covers_match, Relations.matches_map, Relations.overlaps_match}
+use Rattle.of_regions.specs.{declared.region.Region.Region, declared.rival.Rival.Rival, Conditions.AreConditions, Naming.AreAscending, Regions.InRegion}
+use Rattle.of_regions.specs.{Searching.IsStart, Searching.IsUndecided, Searching.LeavesUnreceived, Witness.IsIngressPort}
+use Rattle.of_check.specs.{Verdicts.IsPacket, Verdicts.Packet, declared.finding.Finding.Finding, declared.verdict.Verdict.Verdict}
 use Rattle.of_check.specs.declared.verdict.Verdict.TheVariants.{Wins, Never, Unreceived, Open}
-use Rattle.of_shadowing.specs.declared.listed_flow.ListedFlow.{ListedFlow}
 use Rattle.of_shadowing.specs.Worlds.{World, all_hold, own_world, says_word, takes_world}
+use Rattle.of_shadowing.specs.declared.listed_flow.ListedFlow.{ListedFlow}
 
 -- ---- flows, which are named by their places in the order of the lines, from 0
 

@@ -1,7 +1,5 @@
 -- WORLDS: a packet, and which words hold that OpenFlow 1.3 has no meaning for. Each such word is a condition of its own, named by its text.
-use Rattle.std.specs.Prelude.{ℕ, ◌&&◌, Bool, List}
-use Rattle.std.specs.List.{list_all, list_any}
-use Rattle.std.specs.Str.{bytes_eq}
+use Rattle.std.specs.{Prelude.ℕ, Prelude.◌&&◌, Prelude.Bool, Prelude.List, List.list_all, List.list_any, Str.bytes_eq}
 use Rattle.of_oxm.specs.Relations.{matches_map}
 use Rattle.of_check.specs.Verdicts.{Packet, fields_of}
 use Rattle.of_shadowing.specs.declared.listed_flow.ListedFlow.{ListedFlow}

@@ -1,7 +1,6 @@
 //! Match fields of Open vSwitch that OpenFlow 1.3 or this switch does not have (ovs-fields(7)).
 ghost use Rattle.std.specs.Prelude.{◌≡◌, ◌==◌, ◌&&◌, ◌||◌, is_some};
-ghost use Rattle.std.specs.List.{list_any};
-ghost use Rattle.std.specs.Str.{bytes_eq};
+ghost use Rattle.std.specs.{List.list_any, Str.bytes_eq};
 ghost use Rattle.of_layers.specs.Fields.{number_of};
 ghost use Rattle.of_text.specs.Lines.{lines_of};
 ghost use Rattle.of_shadowing.specs.Conditions.{has_one_of as has_one_of_so, is_condition as is_condition_so, is_need_met as is_need_met_so, is_row_of, need_of as need_of_so, need_of_value as need_of_value_so, need_of_word, begins_with_digit as begins_with_digit_so, matches_field as has_field_so, has_other_ports as has_other_ports_so, is_arp_field as is_arp_so, is_fragments as is_fragments_so, is_masked as is_masked_so, why_unmet as why_unmet_so};

@@ -2,10 +2,7 @@
 ghost use Rattle.std.specs.Prelude.{◌≡◌, ℕ, List};
 ghost use Rattle.of_table.specs.Table.{FlowEntry};
 ghost use Rattle.of_check.specs.Verdicts as entries;
-ghost use Rattle.of_shadowing.specs.declared.listed_flow.ListedFlow.{ListedFlow};
-ghost use Rattle.of_shadowing.specs.Plain.{ArePlain};
-ghost use Rattle.of_shadowing.specs.Shadows.{FlowNeverWins, WinsIn, FlowWinsWith};
-ghost use Rattle.of_shadowing.specs.Worlds.{World};
+ghost use Rattle.of_shadowing.specs.{declared.listed_flow.ListedFlow.ListedFlow, Plain.ArePlain, Shadows.FlowNeverWins, Shadows.WinsIn, Shadows.FlowWinsWith, Worlds.World};
 
 /// A flow that never wins wins in no world.
 pub fn never_wins_nowhere()

@@ -1,6 +1,5 @@
 //! The tables to which actions lead.
-ghost use Rattle.std.specs.Prelude.{◌≡◌, ◌||◌, ◌==◌, OnOk};
-ghost use Rattle.std.specs.Str.{str_eq_ignore_ascii_case};
+ghost use Rattle.std.specs.{Prelude.◌≡◌, Prelude.◌||◌, Prelude.◌==◌, Prelude.OnOk, Str.str_eq_ignore_ascii_case};
 ghost use Rattle.of_shadowing.specs.Leads.{ends_piece as ends_piece_so, no_scan, piece_ended, view_scan, with_action_led, with_byte, with_name, with_next_piece, with_table_led, with_table_if};
 
 use of_ovs_words::{is_gap, name_of, numbered, value_of};

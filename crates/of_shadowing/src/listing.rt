@@ -1,15 +1,11 @@
 //! The flows of a file of ovs-ofctl.
 ghost use Rattle.std.specs.Prelude.{◌≡◌, ◌++◌, ◌∷◌, [], None, not, filter, find, map, IfOk, OnOk};
 ghost use Rattle.std.specs.Option.{option_copied, option_map};
-ghost use Rattle.of_text.specs.Lines.{lines_of};
-ghost use Rattle.of_text.specs.Views.{view};
+ghost use Rattle.of_text.specs.{Lines.lines_of, Views.view};
 ghost use Rattle.of_values.specs.Origins.{view_words};
-ghost use Rattle.of_ovs_lines.specs.LineContentViews.{view_line_content};
-ghost use Rattle.of_ovs_lines.specs.PartialFlowViews.{view_word_fault};
-ghost use Rattle.of_shadowing.specs.Conditions.{need_of_word};
+ghost use Rattle.of_ovs_lines.specs.{LineContentViews.view_line_content, PartialFlowViews.view_word_fault};
 ghost use Rattle.of_shadowing.specs.Listings.{Refused, are_among_words, clause_name, listed_fault, flow_or_fault, is_same_flow, is_word_met as is_word_met_so, listed_content, listed_line, listed_text, listed_words, listing_of, no_listing, split_words, unmet_fault as unmet_fault_of, why_of as why_of_word, with_clause, with_listed, with_flow_listed};
-ghost use Rattle.of_shadowing.specs.ListingViews.{view_content, view_flow, view_listing};
-ghost use Rattle.of_shadowing.specs.LineWordViews.{view_line_words};
+ghost use Rattle.of_shadowing.specs.{Conditions.need_of_word, ListingViews.view_content, ListingViews.view_flow, ListingViews.view_listing, LineWordViews.view_line_words};
 
 use crate::conditions::{is_need_met, need_of, why_unmet};
 use crate::line_words::{LineWords, split_line};

@@ -1,11 +1,8 @@
 //! The flows that leave one fewer packets.
 ghost use Rattle.std.specs.Prelude.{◌≡◌, ◌↔◌, ℕ, Some, IfNone, IfOk, IfSome, IsTrue, false, true, slice_get};
-ghost use Rattle.std.specs.List.{list_all, list_any};
-ghost use Rattle.std.specs.Str.{bytes_eq};
-ghost use Rattle.of_oxm.specs.NormalForm.{IsMatch};
-ghost use Rattle.of_oxm.specs.Relations.{overlaps_match};
-ghost use Rattle.of_shadowing.specs.Shadows.{AreFlowRivals, FlowCovers, Precedes, is_covering_flow};
-ghost use Rattle.of_shadowing.specs.Worlds.{all_hold, says_word};
+ghost use Rattle.std.specs.{List.list_all, List.list_any, Str.bytes_eq};
+ghost use Rattle.of_oxm.specs.{NormalForm.IsMatch, Relations.overlaps_match};
+ghost use Rattle.of_shadowing.specs.{Shadows.AreFlowRivals, Shadows.FlowCovers, Shadows.Precedes, Shadows.is_covering_flow, Worlds.all_hold, Worlds.says_word};
 
 use crate::listed_flow::ListedFlow;
 use of_oxm::{covers, overlaps};

@@ -1,6 +1,5 @@
 //! Flows of equal priority.
-ghost use Rattle.std.specs.Prelude.{◌≡◌, Some, slice_get};
-ghost use Rattle.std.specs.List.{list_any};
+ghost use Rattle.std.specs.{Prelude.◌≡◌, Prelude.Some, Prelude.slice_get, List.list_any};
 ghost use Rattle.of_shadowing.specs.Shadows.{are_level_flows, is_tie_of_flows};
 
 use crate::listed_flow::ListedFlow;

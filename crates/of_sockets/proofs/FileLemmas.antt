@@ -1,10 +1,8 @@
 -- The lines of an event file, one after the other.
 use Rattle.std.proofs.Common.{◌≡◌, ℕ, ◌+◌, ◌<◌, true, false, List, [], ◌++◌, length, Option, Some, None, refl, sym, ◌∙◌, ap, append_assoc, arith}
-use Rattle.std.specs.Option.{option_map}
-use Rattle.std.proofs.lemmas.List.{append-nil}
+use Rattle.std.{specs.Option.option_map, proofs.lemmas.List.append-nil}
 use Rattle.of_switch.specs.declared.event.Event.{Event}
-use Rattle.of_text.specs.Lines.{lines_of, before, behind}
-use Rattle.of_text.proofs.TextLemmas.{first_line}
+use Rattle.of_text.{specs.Lines.lines_of, specs.Lines.before, specs.Lines.behind, proofs.TextLemmas.first_line}
 use Rattle.of_replay.specs.Rows.{Rows, row_of_line}
 use Rattle.of_sockets.specs.FileRows.{Pushes, file_row, file_rows, file_row_and}
 

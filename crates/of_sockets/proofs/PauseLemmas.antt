@@ -1,8 +1,6 @@
 -- Pauses, one after the other.
 use Rattle.std.proofs.Common.{◌≡◌, ◌≤◌, ◌<◌, ℕ, ◌+◌, ◌*◌, Bool, true, false, arith, refl, ◌∙◌, ap, add-one}
-use Rattle.std.specs.Prelude.{◌^◌, min, nat_le}
-use Rattle.std.proofs.Math.Nat.{pow-suc, le-mul_of_pos_right, mul-le-mul_right}
-use Rattle.std.proofs.lemmas.Nat.{pow_pos}
+use Rattle.std.{specs.Prelude.◌^◌, specs.Prelude.min, specs.Prelude.nat_le, proofs.Math.Nat.pow-suc, proofs.Math.Nat.le-mul_of_pos_right, proofs.Math.Nat.mul-le-mul_right, proofs.lemmas.Nat.pow_pos}
 use Rattle.std.proofs.lemmas.Bool.Decides.{nat_tests}
 
 turned : (p q : ℕ) → p * 2 * q ≡ p * (q * 2)

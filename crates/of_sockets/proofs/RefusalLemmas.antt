@@ -1,12 +1,10 @@
 -- The rows of a file that a switch refuses, one after the other.
 use Rattle.std.proofs.Common.{◌≡◌, ℕ, ◌+◌, ◌<◌, Bool, true, false, List, [], ◌∷◌, ◌++◌, length, refl, sym, ◌∙◌, ap, append_assoc, if◌then◌else◌}
 use Rattle.std.proofs.lemmas.List.{append-nil}
-use Rattle.of_text.specs.Lines.{lines_of, before, behind, is_passed}
-use Rattle.of_text.proofs.TextLemmas.{first_line}
-use Rattle.of_switch.specs.declared.event.Event.{Event}
-use Rattle.of_switch.specs.State.{State}
-use Rattle.of_sockets.specs.declared.refusals.RefusedRow.{RefusedRow}
+use Rattle.of_text.{specs.Lines.lines_of, specs.Lines.before, specs.Lines.behind, specs.Lines.is_passed, proofs.TextLemmas.first_line}
+use Rattle.of_switch.specs.{declared.event.Event.Event, State.State}
 use Rattle.of_sockets.specs.Refusals.{row_numbers, refused_rows_from, refused_by, later, ported}
+use Rattle.of_sockets.specs.declared.refusals.RefusedRow.{RefusedRow}
 
 -- ---- the numbers of rows
 

@@ -1,17 +1,12 @@
 -- What the calls of a socket or of a file mean.
 use Rattle.std.specs.Prelude.{ℕ, suc, zero, Bool, true, Option, Some, None, Result, Ok, Err, if◌then◌else◌}
-use Rattle.std.specs.declared.io.Error.{Error}
-use Rattle.std.specs.declared.io.ErrorKind.{ErrorKind}
+use Rattle.std.specs.{declared.io.Error.Error, declared.io.ErrorKind.ErrorKind, IoError.error_kind}
 use Rattle.std.specs.declared.io.ErrorKind.TheVariants as kind
-use Rattle.std.specs.IoError.{error_kind}
-use Rattle.of_replay.specs.Passing.{passes}
-use Rattle.of_replay.specs.declared.event_file.Ended.{Ended}
-use Rattle.of_replay.specs.declared.event_file.Ended.TheVariants.{NoMemory, ReadFault}
+use Rattle.of_replay.specs.{Passing.passes, declared.event_file.Ended.Ended, declared.event_file.Ended.TheVariants.NoMemory, declared.event_file.Ended.TheVariants.ReadFault}
 use Rattle.of_replay.specs.declared.io.Reading.{Reading}
 use Rattle.of_replay.specs.declared.io.Reading.TheVariants as reading
-use Rattle.of_sockets.specs.declared.calls.Ending.{Ending}
+use Rattle.of_sockets.specs.{declared.calls.Ending.Ending, declared.calls.Attempt.Attempt}
 use Rattle.of_sockets.specs.declared.calls.Ending.TheVariants as ending
-use Rattle.of_sockets.specs.declared.calls.Attempt.{Attempt}
 use Rattle.of_sockets.specs.declared.calls.Attempt.TheVariants as attempt
 
 -- an accept found nobody, or one who was gone again

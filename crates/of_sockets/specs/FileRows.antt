@@ -1,14 +1,10 @@
 -- The event file of a switch that serves, which is read whole.
 use Rattle.std.specs.Prelude.{◌≡◌, ◌⊎◌, ℕ, ◌+◌, Bool, true, false, List, [], ◌∷◌, ◌++◌, Option, Some, None, Result, Ok, Err}
-use Rattle.std.specs.Option.{option_map}
-use Rattle.std.specs.Global.{Vec}
-use Rattle.of_switch.specs.declared.event.Event.{Event}
-use Rattle.of_switch.specs.declared.event.Event.TheVariants.{Connect, Lost, Chunk}
+use Rattle.std.specs.{Option.option_map, Global.Vec}
+use Rattle.of_switch.specs.{declared.event.Event.Event, declared.event.Event.TheVariants.Connect, declared.event.Event.TheVariants.Lost, declared.event.Event.TheVariants.Chunk}
 use Rattle.of_text.specs.Lines.{lines_of}
-use Rattle.of_replay.specs.declared.event_file.Ended.{Ended}
 use Rattle.of_replay.specs.declared.event_file.Ended.TheVariants.{Done, BadRow, Text, ReadFault, WriteFault, NoMemory}
-use Rattle.of_replay.specs.FileRuns.{Meaning, IsValue, IsBad, HasFault}
-use Rattle.of_replay.specs.Rows.{Rows, row_of_line}
+use Rattle.of_replay.specs.{declared.event_file.Ended.Ended, FileRuns.Meaning, FileRuns.IsValue, FileRuns.IsBad, FileRuns.HasFault, Rows.Rows, Rows.row_of_line}
 
 -- what happens at a row; those of a controller (`connect`, `lost`, `c`) are not allowed in the file
 abbrev pub file_row : Option (Option Event) → Option (List Event)

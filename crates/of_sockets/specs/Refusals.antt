@@ -1,10 +1,7 @@
 -- Rows of an event file that a switch refuses, and when they are due.
 use Rattle.std.specs.Prelude.{ℕ, ◌+◌, nat_le, max, List, [], ◌∷◌, ◌++◌, Option, Some, None, if◌then◌else◌}
 use Rattle.of_text.specs.Lines.{is_passed}
-use Rattle.of_switch.specs.declared.switch_error.SwitchError.{SwitchError}
-use Rattle.of_switch.specs.declared.event.Event.{Event}
-use Rattle.of_switch.specs.declared.event.Event.TheVariants.{Moment, Ports}
-use Rattle.of_switch.specs.State.{State}
+use Rattle.of_switch.specs.{declared.switch_error.SwitchError.SwitchError, declared.event.Event.Event, declared.event.Event.TheVariants.Moment, declared.event.Event.TheVariants.Ports, State.State}
 use Rattle.of_switch.specs.Runs.{Report, Gives, IsRefused, happened}
 use Rattle.of_sockets.specs.declared.refusals.RefusedRow.{RefusedRow}
 

@@ -1,9 +1,8 @@
 -- When a connection of which little is heard is given up, or gives way to another one.
 use Rattle.std.specs.Prelude.{ℕ, ◌*◌, ◌+◌, ◌-◌, nat_le, not, ◌&&◌, Bool, false, List, ◌∷◌, length, Option, Some, None, if◌then◌else◌}
-use Rattle.of_sockets.specs.declared.calls.Ending.{Ending}
-use Rattle.of_sockets.specs.declared.calls.Ending.TheVariants as ending
-use Rattle.of_sockets.specs.declared.silence.Heard.{Heard}
+use Rattle.of_sockets.specs.{declared.calls.Ending.Ending, declared.silence.Heard.Heard}
 use Rattle.of_sockets.specs.declared.silence.TheConstants.{GREETING_WAIT, PATIENCE, DOUBT}
+use Rattle.of_sockets.specs.declared.calls.Ending.TheVariants as ending
 
 -- a stream begins with a whole message: its header, and as many bytes as that says (7.1)
 abbrev pub begins_whole : List ℕ → Bool

@@ -1,7 +1,6 @@
 //! Event files that are read whole, before a switch serves.
 ghost use Rattle.std.specs.Prelude.{◌≡◌, ◌≤◌, IfOk, Some, true};
-ghost use Rattle.of_replay.specs.Rows.{row_of_line, with_bytes};
-ghost use Rattle.of_replay.specs.FileRuns.{IsRead, ReadsWhole};
+ghost use Rattle.of_replay.specs.{Rows.row_of_line, Rows.with_bytes, FileRuns.IsRead, FileRuns.ReadsWhole};
 ghost use Rattle.of_sockets.specs.FileRows.{Pushes, RowsFault, file_row, served_file};
 
 use of_replay::{Ended, READ_SIZE, Row, Source, ended_by, read_file, read_row, zeros};

@@ -1,9 +1,7 @@
 //! Rows of an event file that a switch refuses.
 ghost use Rattle.std.specs.Prelude.{◌≡◌, ◌++◌, ◌∷◌, [], IfOk, OnOk};
 ghost use Rattle.of_text.specs.Lines.{lines_of};
-ghost use Rattle.of_switch.specs.declared.event.Event.TheVariants.{Ports as PortsEvent};
-ghost use Rattle.of_switch.specs.Runs.{happened};
-ghost use Rattle.of_switch.specs.State.{start};
+ghost use Rattle.of_switch.specs.{declared.event.Event.TheVariants.Ports as PortsEvent, Runs.happened, State.start};
 ghost use Rattle.of_sockets.specs.Refusals.{after_due, later, next_due as first_due, ported, refusal_in, refused_by, refused_rows_from, refused_row, row_numbers as numbers_of_rows};
 
 use of_classifier::Lookup;

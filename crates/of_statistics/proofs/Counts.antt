@@ -1,14 +1,9 @@
 -- How many entries there are of a kind.
 use Rattle.std.proofs.Common.{◌≡◌, ◌<◌, ℕ, ◌+◌, Bool, true, false, cond, List, [], ◌∷◌, length, take, get_or, refl, ap, sym, ◌∙◌, arith}
-use Rattle.std.specs.Prelude.{filter}
-use Rattle.std.specs.List.{count_by, sum_by}
-use Rattle.std.proofs.lemmas.List.Sums.{length-filter, sum_by-append}
-use Rattle.of_table.specs.declared.entry.Entry.{Entry}
-use Rattle.of_table.specs.Table.{FlowEntry, Table, empty_table}
-use Rattle.of_table.specs.Entries.{entry_of, flows_of}
+use Rattle.std.{specs.Prelude.filter, specs.List.count_by, specs.List.sum_by, proofs.lemmas.List.Sums.length-filter, proofs.lemmas.List.Sums.sum_by-append}
+use Rattle.of_table.specs.{declared.entry.Entry.Entry, Table.FlowEntry, Table.Table, Table.empty_table, Entries.entry_of, Entries.flows_of}
 use Rattle.of_table.specs.Tables.{NumberedTables, numbered_at, table_at, tables_of}
-use Rattle.of_statistics.specs.Flows.{from_tables}
-use Rattle.of_statistics.proofs.Walks.{entries_count, from_more, table_at_is}
+use Rattle.of_statistics.{specs.Flows.from_tables, proofs.Walks.entries_count, proofs.Walks.from_more, proofs.Walks.table_at_is}
 
 same_length : (p : FlowEntry → Bool) (es : List Entry) → length (filter (λ e. p (entry_of e)) es) ≡ length (filter p (flows_of es))
 same_length p [] = refl

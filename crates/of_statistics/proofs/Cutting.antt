@@ -1,11 +1,9 @@
 -- Rows that are packed into replies.
 use Rattle.std.proofs.Common.{◌≡◌, ◌≤◌, ◌<◌, ℕ, ◌+◌, Bool, true, false, cond, List, [], ◌∷◌, ◌++◌, length, drop, take, map, get_or, refl, sym, ap, subst, ◌∙◌, arith}
 use Rattle.std.specs.Prelude.{nat_le, Result, Ok, Err, OnOk}
-use Rattle.std.specs.List.{concat, AllByRecursion as ByRecursion}
 use Rattle.std.proofs.lemmas.List.{append_assoc, append-nil, map-append, take_more, length-append}
-use Rattle.std.proofs.lemmas.List.Folds.{concat-append}
-use Rattle.std.proofs.lemmas.List.Elements.{recursion_from_All, All-from_recursion}
-use Rattle.std.proofs.lemmas.Bool.Decides.{nat_tests}
+use Rattle.std.{specs.List.concat, specs.List.AllByRecursion as ByRecursion, proofs.lemmas.List.Folds.concat-append}
+use Rattle.std.proofs.{lemmas.List.Elements.recursion_from_All, lemmas.List.Elements.All-from_recursion, lemmas.Bool.Decides.nat_tests}
 use Rattle.of_statistics.specs.Replies.{Draft, IsFull, AreReplies, AreWithin, reply, more, most, empty_draft, filled, with_row, with_rows, closed, replies, rows_in}
 
 -- one row after the other

@@ -1,14 +1,10 @@
 -- Rows of groups.
 use Rattle.std.proofs.Common.{◌≡◌, ◌≤◌, ℕ, ◌+◌, ◌*◌, List, [], ◌∷◌, ◌++◌, length, refl, ◌∙◌, append_assoc, arith}
-use Rattle.std.specs.List.{flat_map}
-use Rattle.std.proofs.lemmas.List.{length-append}
+use Rattle.std.{specs.List.flat_map, proofs.lemmas.List.length-append}
 use Rattle.byteorder.specs.Endian.{big_bytes}
-use Rattle.of_groups.specs.Groups.{kind_number}
+use Rattle.of_groups.specs.{Groups.kind_number, declared.bucket.Bucket.Bucket, declared.group.Group.Group}
 use Rattle.of_messages.specs.CanonicalGroups.{canonical_buckets}
-use Rattle.of_groups.specs.declared.bucket.Bucket.{Bucket}
-use Rattle.of_groups.specs.declared.group.Group.{Group}
-use Rattle.of_statistics.specs.Durations.{duration}
-use Rattle.of_statistics.specs.Groups.{bucket_row, group_fixed_part, group_row, group_description}
+use Rattle.of_statistics.specs.{Durations.duration, Groups.bucket_row, Groups.group_fixed_part, Groups.group_row, Groups.group_description}
 
 length_bucket : (b : Bucket) → length (bucket_row b) ≡ 16
 unfolding bucket_row

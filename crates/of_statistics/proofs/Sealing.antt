@@ -1,12 +1,10 @@
 -- Replies as bytes: a head that is written before a body, and rows that are put after it.
 use Rattle.std.proofs.Common.{◌≡◌, ◌≤◌, ◌<◌, ℕ, ◌+◌, true, false, List, [], ◌∷◌, ◌++◌, length, take, drop, refl, ap, ◌∙◌, arith, Result, Ok, Err}
 use Rattle.std.specs.Prelude.{OnOk, nat_le, is_ok, replicate, if◌then◌else◌}
-use Rattle.std.proofs.lemmas.List.{length-drop, drop-append-le, take-append-le, take_all}
-use Rattle.std.proofs.lemmas.Bool.Decides.{nat_tests}
+use Rattle.std.proofs.{lemmas.List.length-drop, lemmas.List.drop-append-le, lemmas.List.take-append-le, lemmas.List.take_all, lemmas.Bool.Decides.nat_tests}
 use Rattle.of_formats.specs.Structs.{written}
 use Rattle.of_formats.specs.Tables as tables
-use Rattle.of_messages.specs.Written.{message_header, IsMessage}
-use Rattle.of_messages.proofs.Lengths.{is_message}
+use Rattle.of_messages.{specs.Written.message_header, specs.Written.IsMessage, proofs.Lengths.is_message}
 use Rattle.of_statistics.specs.Replies.{head_bytes, reply, more, most, with_row}
 
 pub length_head : (size xid kind flags : ℕ) → length (head_bytes size xid kind flags) ≡ 16

@@ -1,16 +1,10 @@
 -- How long bodies are.
 use Rattle.std.proofs.Common.{◌≡◌, ◌≤◌, ℕ, ◌*◌, ◌-◌, suc, List, [], ◌∷◌, ◌++◌, length, refl, ap, arith}
 use Rattle.std.specs.Prelude.{codes, replicate, Option, Some, None}
-use Rattle.std.specs.List.{flat_map}
-use Rattle.std.specs.Option.{option_to_list}
-use Rattle.std.proofs.lemmas.List.{length-append, length-replicate}
+use Rattle.std.{specs.List.flat_map, specs.Option.option_to_list, proofs.lemmas.List.length-append, proofs.lemmas.List.length-replicate}
 use Rattle.of_table.specs.Table.{Table}
-use Rattle.of_ports.specs.declared.port.Port.{Port}
-use Rattle.of_ports.specs.Ports.{port_at}
-use Rattle.of_statistics.specs.Descriptions.{padded_text, description}
-use Rattle.of_statistics.specs.declared.aggregate.Totals.{Totals}
-use Rattle.of_statistics.specs.Flows.{aggregate, from_tables, table_row}
-use Rattle.of_statistics.specs.Groups.{group_features_body}
+use Rattle.of_ports.specs.{declared.port.Port.Port, Ports.port_at}
+use Rattle.of_statistics.specs.{Descriptions.padded_text, Descriptions.description, declared.aggregate.Totals.Totals, Flows.aggregate, Flows.from_tables, Flows.table_row, Groups.group_features_body}
 use Rattle.of_statistics.specs.Ports.{asked_ports, port_row}
 
 -- a body after a head fits a message

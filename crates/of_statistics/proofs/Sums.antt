@@ -1,20 +1,11 @@
 -- Sums of what entries have counted.
 use Rattle.std.proofs.Common.{◌≡◌, ◌<◌, ℕ, suc, ◌+◌, ◌%◌, ◌^◌, Bool, true, false, cond, List, [], ◌∷◌, ◌++◌, length, take, get_or, refl, ap, sym, ◌∙◌, arith}
-use Rattle.std.specs.Prelude.{filter, map}
-use Rattle.std.specs.List.{sum_by}
-use Rattle.std.proofs.Math.Nat.{mod-add-mod}
-use Rattle.std.proofs.lemmas.List.{map-append}
-use Rattle.std.proofs.lemmas.List.Sums.{sum_by-cons}
-use Rattle.of_table.specs.declared.entry.Entry.{Entry}
-use Rattle.of_table.specs.declared.selection.Selector.{Selector}
-use Rattle.of_table.specs.Table.{FlowEntry, Table, empty_table}
-use Rattle.of_table.specs.Entries.{entry_of, flows_of}
-use Rattle.of_table.specs.Tables.{Tables, is_in}
-use Rattle.of_table.specs.Selecting.{selects}
-use Rattle.of_statistics.specs.declared.aggregate.Totals.{Totals}
+use Rattle.std.{specs.Prelude.filter, specs.Prelude.map, specs.List.sum_by, proofs.Math.Nat.mod-add-mod, proofs.lemmas.List.map-append, proofs.lemmas.List.Sums.sum_by-cons}
+use Rattle.of_table.specs.{declared.entry.Entry.Entry, declared.selection.Selector.Selector, Table.FlowEntry, Table.Table, Table.empty_table, Entries.entry_of, Entries.flows_of}
+use Rattle.of_table.specs.{Tables.Tables, Tables.is_in, Selecting.selects}
 use Rattle.of_statistics.specs.Flows.{EntryInTable, asked, from_tables, listed_in, totals}
 use Rattle.of_statistics.specs.Adding.{nothing, plus_entry, plus_all, plus_asked, asked_of}
-use Rattle.of_statistics.proofs.Walks.{from_more}
+use Rattle.of_statistics.{specs.declared.aggregate.Totals.Totals, proofs.Walks.from_more}
 
 plus_more : (t : Totals) (es fs : List FlowEntry) → plus_all t (es ++ fs) ≡ plus_all (plus_all t es) fs
 unfolding plus_all

@@ -1,17 +1,9 @@
 -- Walks over tables and their entries.
 use Rattle.std.proofs.Common.{◌≡◌, ◌<◌, ℕ, zero, suc, ◌+◌, Bool, true, false, cond, List, [], ◌∷◌, ◌++◌, length, take, get_or, refl, ap, sym, ◌∙◌, append_assoc, add-one, arith}
-use Rattle.std.specs.Prelude.{map, filter}
-use Rattle.std.proofs.lemmas.List.{append-nil, length-map, map-append}
-use Rattle.std.proofs.Math.ListN.{get_or-map}
-use Rattle.of_table.specs.Table.{FlowEntry, Table, empty_table}
-use Rattle.of_table.specs.declared.selection.Selector.{Selector}
-use Rattle.of_table.specs.declared.entry.Entry.{Entry}
-use Rattle.of_table.specs.Entries.{entry_of, flows_of, no_entries, table_of}
-use Rattle.of_table.specs.Tables.{NumberedTables, numbered_at, table_at, tables_of}
-use Rattle.of_table.specs.Selecting.{selects}
-use Rattle.of_statistics.specs.Replies.{Draft, with_rows}
-use Rattle.of_statistics.specs.Flows.{from_tables, flow_row, rows_of_one, rows_of_entries}
-use Rattle.of_statistics.proofs.Cutting.{rows_more}
+use Rattle.std.{specs.Prelude.map, specs.Prelude.filter, proofs.lemmas.List.append-nil, proofs.lemmas.List.length-map, proofs.lemmas.List.map-append, proofs.Math.ListN.get_or-map}
+use Rattle.of_table.specs.{Table.FlowEntry, Table.Table, Table.empty_table, declared.selection.Selector.Selector, declared.entry.Entry.Entry}
+use Rattle.of_table.specs.{Entries.entry_of, Entries.flows_of, Entries.no_entries, Entries.table_of, Tables.NumberedTables, Tables.numbered_at, Tables.table_at, Tables.tables_of, Selecting.selects}
+use Rattle.of_statistics.{specs.Replies.Draft, specs.Replies.with_rows, specs.Flows.from_tables, specs.Flows.flow_row, specs.Flows.rows_of_one, specs.Flows.rows_of_entries, proofs.Cutting.rows_more}
 
 -- a table without the numbers of its entries
 pub table_at_is : (k : ℕ) (n : NumberedTables) → table_at k (tables_of n) ≡ table_of (numbered_at k n)

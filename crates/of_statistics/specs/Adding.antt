@@ -1,9 +1,6 @@
 -- Sums of what entries have counted, entry by entry.
 use Rattle.std.specs.Prelude.{ℕ, ◌+◌, ◌%◌, ◌^◌, List, [], ◌∷◌, filter, if◌then◌else◌}
-use Rattle.of_table.specs.declared.selection.Selector.{Selector}
-use Rattle.of_table.specs.Table.{FlowEntry, Table}
-use Rattle.of_table.specs.Tables.{is_in}
-use Rattle.of_table.specs.Selecting.{selects}
+use Rattle.of_table.specs.{declared.selection.Selector.Selector, Table.FlowEntry, Table.Table, Tables.is_in, Selecting.selects}
 use Rattle.of_statistics.specs.declared.aggregate.Totals.{Totals}
 
 abbrev pub nothing : Totals

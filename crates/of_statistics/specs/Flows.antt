@@ -5,13 +5,8 @@ use Rattle.of_formats.specs.Structs.{size, written}
 use Rattle.of_formats.specs.Tables as tables
 use Rattle.of_oxm.specs.Canonical.{canonical}
 use Rattle.of_actions.specs.CanonicalInstructions.{canonical_instructions}
-use Rattle.of_table.specs.declared.selection.Selector.{Selector}
-use Rattle.of_table.specs.Table.{FlowEntry, Table, flags_number}
-use Rattle.of_table.specs.Tables.{Tables, is_in}
-use Rattle.of_table.specs.Selecting.{selects, nanoseconds_since}
-use Rattle.of_statistics.specs.declared.aggregate.Totals.{Totals}
-use Rattle.of_statistics.specs.Replies.{reply, replies}
-use Rattle.of_statistics.specs.Durations.{seconds}
+use Rattle.of_table.specs.{declared.selection.Selector.Selector, Table.FlowEntry, Table.Table, Table.flags_number, Tables.Tables, Tables.is_in, Selecting.selects, Selecting.nanoseconds_since}
+use Rattle.of_statistics.specs.{declared.aggregate.Totals.Totals, Replies.reply, Replies.replies, Durations.seconds}
 
 -- what is listed for each table by its number, from number k on
 abbrev pub from_tables : {X : Type 0} → (ℕ → Table → List X) → ℕ → List Table → List X

@@ -1,21 +1,13 @@
 -- GROUP, GROUP_DESC and GROUP_FEATURES (OpenFlow 1.3.5, 7.3.5.9, 7.3.5.10 and 7.3.5.11): what groups count, what they are, and which there can be.
 use Rattle.std.specs.Prelude.{ℕ, ◌+◌, ◌*◌, ◌^◌, ◌%◌, bit_or, List, [], ◌∷◌, ◌++◌, length, map, take, Option, Some, None}
-use Rattle.std.specs.List.{count_by, flat_map, fold}
-use Rattle.std.specs.Option.{option_to_list}
+use Rattle.std.specs.{List.count_by, List.flat_map, List.fold, Option.option_to_list}
 use Rattle.of_formats.specs.Structs.{size, written}
 use Rattle.of_formats.specs.Tables as structs
-use Rattle.of_actions.specs.declared.rows.ActionRow.{ActionRow}
-use Rattle.of_actions.specs.declared.rows.TheConstants.{ACTIONS}
+use Rattle.of_actions.specs.{declared.rows.ActionRow.ActionRow, declared.rows.TheConstants.ACTIONS}
 use Rattle.of_messages.specs.CanonicalGroups.{canonical_buckets}
-use Rattle.of_groups.specs.declared.bucket.Bucket.{Bucket}
-use Rattle.of_groups.specs.declared.group.Group.{Group}
-use Rattle.of_groups.specs.Groups.{find_group, sends_to, kind_number}
-use Rattle.of_table.specs.Table.{FlowEntry}
-use Rattle.of_table.specs.Tables.{Tables}
-use Rattle.of_table.specs.Selecting.{names_group, nanoseconds_since}
-use Rattle.of_statistics.specs.Replies.{reply, replies}
-use Rattle.of_statistics.specs.Durations.{seconds}
-use Rattle.of_statistics.specs.Flows.{from_tables}
+use Rattle.of_groups.specs.{declared.bucket.Bucket.Bucket, declared.group.Group.Group, Groups.find_group, Groups.sends_to, Groups.kind_number}
+use Rattle.of_table.specs.{Table.FlowEntry, Tables.Tables, Selecting.names_group, Selecting.nanoseconds_since}
+use Rattle.of_statistics.specs.{Replies.reply, Replies.replies, Durations.seconds, Flows.from_tables}
 
 -- a group by its number, where it exists, or all of them
 abbrev pub asked_groups : Option ℕ → List Group → List Group

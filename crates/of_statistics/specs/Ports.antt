@@ -1,18 +1,12 @@
 -- PORT_STATS and PORT_DESC (OpenFlow 1.3.5, 7.3.5.6 and 7.3.5.7): what ports count, and what they are.
 use Rattle.std.specs.Prelude.{ℕ, List, [], ◌∷◌, take, drop, Option, Some, None}
-use Rattle.std.specs.List.{flat_map}
-use Rattle.std.specs.Option.{option_to_list}
+use Rattle.std.specs.{List.flat_map, Option.option_to_list}
 use Rattle.of_formats.specs.Structs.{written}
 use Rattle.of_formats.specs.Tables as tables
-use Rattle.of_messages.specs.declared.port_mod.PortDescription.{PortDescription}
-use Rattle.of_messages.specs.Written.{port_bytes}
-use Rattle.of_ports.specs.declared.port.Port.{Port}
-use Rattle.of_ports.specs.declared.counters.PortCounters.{PortCounters}
-use Rattle.of_ports.specs.Config.{config_bits}
-use Rattle.of_ports.specs.Ports.{port_at, state_bits}
+use Rattle.of_messages.specs.{declared.port_mod.PortDescription.PortDescription, Written.port_bytes}
+use Rattle.of_ports.specs.{declared.port.Port.Port, declared.counters.PortCounters.PortCounters, Config.config_bits, Ports.port_at, Ports.state_bits}
 use Rattle.of_table.specs.Selecting.{nanoseconds_since}
-use Rattle.of_statistics.specs.Replies.{reply}
-use Rattle.of_statistics.specs.Durations.{seconds}
+use Rattle.of_statistics.specs.{Replies.reply, Durations.seconds}
 
 -- tx_errors and all from there to the collisions are always 0
 unfoldable pub port_row : ℕ → Port → List ℕ

@@ -1,8 +1,7 @@
 -- MULTIPART_REPLY (OpenFlow 1.3.5, 7.3.5), and rows that are packed greedily, each row whole, into replies.
 use Rattle.std.specs.Prelude.{◌≡◌, ◌<◌, ◌≤◌, ℕ, ◌+◌, nat_le, List, [], ◌∷◌, ◌++◌, length, drop, if◌then◌else◌}
 use Rattle.std.specs.List.{All, concat, flat_map}
-use Rattle.of_formats.specs.Structs.{written}
-use Rattle.of_formats.specs.declared.messages.TheConstants.{MULTIPART_REPLY}
+use Rattle.of_formats.specs.{Structs.written, declared.messages.TheConstants.MULTIPART_REPLY}
 use Rattle.of_formats.specs.Tables as tables
 use Rattle.of_messages.specs.Written.{message_header, message}
 

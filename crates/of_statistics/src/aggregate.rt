@@ -1,10 +1,7 @@
 //! AGGREGATE (OpenFlow 1.3.5, 7.3.5.3).
 ghost use Rattle.std.specs.Prelude.{◌≡◌, ◌<◌, ◌≤◌, ◌+◌, ◌++◌, length, filter, OnOk, IfOk};
-ghost use Rattle.of_table.specs.Entries.{entry_of, flows_of};
-ghost use Rattle.of_table.specs.Tables.{table_at, tables_of};
-ghost use Rattle.of_table.specs.Selecting.{selects as selected};
-ghost use Rattle.of_statistics.specs.Flows.{aggregate, aggregate_bytes, asked, totals as totals_of};
-ghost use Rattle.of_statistics.specs.Adding.{asked_of, plus_all, plus_asked};
+ghost use Rattle.of_table.specs.{Entries.entry_of, Entries.flows_of, Tables.table_at, Tables.tables_of, Selecting.selects as selected};
+ghost use Rattle.of_statistics.specs.{Flows.aggregate, Flows.aggregate_bytes, Flows.asked, Flows.totals as totals_of, Adding.asked_of, Adding.plus_all, Adding.plus_asked};
 
 use crate::replies::{begun, sealed};
 use of_classifier::Lookup;

@@ -1,9 +1,8 @@
 //! FLOW (OpenFlow 1.3.5, 7.3.5.2).
 ghost use Rattle.std.specs.Prelude.{◌≡◌, ◌<◌, ◌≤◌, ◌++◌, [], length, map, OnOk, IfOk};
-ghost use Rattle.of_table.specs.Entries.{entry_of, flows_of};
-ghost use Rattle.of_table.specs.Tables.{table_at, tables_of};
-ghost use Rattle.of_statistics.specs.Replies.{with_rows};
+ghost use Rattle.of_table.specs.{Entries.entry_of, Entries.flows_of, Tables.table_at, Tables.tables_of};
 ghost use Rattle.of_statistics.specs.Flows.{flow_bytes, flow_counts, flow_row as row_of, flow_times, listed_in, rows_of_entries, rows_of_one};
+ghost use Rattle.of_statistics.specs.Replies.{with_rows};
 
 use crate::replies::Replies;
 use crate::writing::put_duration;

@@ -2,8 +2,8 @@
 ghost use Rattle.std.specs.Prelude.{◌≡◌, ◌<◌, ◌≤◌, ◌+◌, ◌*◌, ◌++◌, length, map, OnOk, IfOk};
 ghost use Rattle.std.specs.List.{flat_map};
 ghost use Rattle.of_table.specs.Tables.{tables_of};
-ghost use Rattle.of_statistics.specs.Replies.{with_row, with_rows};
 ghost use Rattle.of_statistics.specs.Groups.{bucket_row, group_actions, group_bytes, group_description, group_description_bytes, group_features_body, group_features_bytes, group_fixed_part, group_row, group_statistics_rows, row_among, with_bit};
+ghost use Rattle.of_statistics.specs.Replies.{with_row, with_rows};
 
 use crate::references::references;
 use crate::replies::{Replies, begun, sealed};

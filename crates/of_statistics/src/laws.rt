@@ -1,6 +1,5 @@
 //! Laws of the replies.
-ghost use Rattle.std.specs.Prelude.{◌≡◌, ℕ, List};
-ghost use Rattle.std.specs.List.{concat};
+ghost use Rattle.std.specs.{Prelude.◌≡◌, Prelude.ℕ, Prelude.List, List.concat};
 ghost use Rattle.of_statistics.specs.Replies.{AreReplies, AreWithin, most, replies, rows_in};
 
 /// Replies of rows hold the rows whole and in their order: joined they are the rows, each but the last could not hold the

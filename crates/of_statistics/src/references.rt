@@ -1,9 +1,6 @@
 //! How many refer to a group (OpenFlow 1.3.5, 7.3.5.9).
-ghost use Rattle.std.specs.Prelude.{◌≡◌, ◌≤◌, Some};
-ghost use Rattle.std.specs.List.{count_by};
-ghost use Rattle.of_table.specs.Entries.{flows_of};
-ghost use Rattle.of_table.specs.Selecting.{names_group as naming};
-ghost use Rattle.of_table.specs.Tables.{tables_of};
+ghost use Rattle.std.specs.{Prelude.◌≡◌, Prelude.◌≤◌, Prelude.Some, List.count_by};
+ghost use Rattle.of_table.specs.{Entries.flows_of, Selecting.names_group as naming, Tables.tables_of};
 ghost use Rattle.of_statistics.specs.Groups.{all_entries, references as references_to};
 
 use of_classifier::Lookup;

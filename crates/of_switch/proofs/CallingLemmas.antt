@@ -1,18 +1,13 @@
 -- Calls, of which some ran out of memory, and the events that the others are.
 use Rattle.std.proofs.Common.{◌≡◌, ℕ, Bool, true, false, List, [], ◌∷◌, ◌++◌, map, flat_map, Option, Some, None, Result, Ok, Err, ap, ◌∙◌, sym, refl, subst}
-use Rattle.std.specs.Prelude.{⊤, IfNone}
-use Rattle.std.specs.Option.{option_map}
+use Rattle.std.specs.{Prelude.⊤, Prelude.IfNone, Option.option_map}
 use Rattle.smallvec.specs.SmallVec.{SmallVec}
 use Rattle.of_datapath.specs.declared.effect.Effect.{Effect}
-use Rattle.of_switch.specs.declared.switch_error.SwitchError.{SwitchError}
-use Rattle.of_switch.specs.declared.switch_error.SwitchError.TheVariants.{NoMemory}
-use Rattle.of_switch.specs.State.{State}
-use Rattle.of_switch.specs.Loading.{loaded}
 use Rattle.of_switch.specs.Steps.{Outcome, gives, connected, fed, next_of, frame_in, moment_in, port_changed, lost}
-use Rattle.of_switch.specs.Calls.{Call, connect_refusal, feed_refusal, port_refusal}
 use Rattle.of_switch.specs.Runs.{behind_effects, drained, Report, Gives, IsRefused, Happened, happened, unless_refusal, Run, run}
 use Rattle.of_switch.specs.Calling.{CallAnswer, Made, Connected, Lost, Fed, Next, Frame, Moment, Changed, Loaded, IsMade, AreMade, is_no_memory, found_no_memory, ran_out, others, Deed, Connects, Loses, Sends, IsUnheard, Receives, Waits, Changes, handled_call, calls_of, event_of, report_for, deed_report}
-use Rattle.of_switch.proofs.Joining.{drained_more, drained_none}
+use Rattle.of_switch.specs.{declared.switch_error.SwitchError.SwitchError, declared.switch_error.SwitchError.TheVariants.NoMemory, State.State, Loading.loaded}
+use Rattle.of_switch.{specs.Calls.Call, specs.Calls.connect_refusal, specs.Calls.feed_refusal, specs.Calls.port_refusal, proofs.Joining.drained_more, proofs.Joining.drained_none}
 
 -- WHERE MEMORY RAN OUT nothing changed
 

@@ -1,14 +1,11 @@
 -- Messages, until there is none.
 use Rattle.std.proofs.Common.{◌≡◌, ℕ, ◌+◌, ◌<◌, ◌≤◌, suc, zero, List, [], ◌++◌, length, drop, Option, Some, None, refl, sym, ◌∙◌, ap, subst, arith, append_assoc, length-drop}
-use Rattle.std.proofs.lemmas.List.{append-nil}
-use Rattle.std.proofs.lemmas.Option.{same_Some}
-use Rattle.of_session.specs.declared.session.Next.{Next}
+use Rattle.std.proofs.{lemmas.List.append-nil, lemmas.Option.same_Some}
 use Rattle.of_session.specs.declared.session.Next.TheVariants.{Nothing, BadStream, NotHello, Opened, Read, Refused}
-use Rattle.of_session.proofs.Nexts.{IsSizedIn, next_sized}
+use Rattle.of_session.{specs.declared.session.Next.Next, proofs.Nexts.IsSizedIn, proofs.Nexts.next_sized}
 use Rattle.of_datapath.specs.declared.effect.Effect.{Effect}
-use Rattle.of_switch.specs.State.{State}
 use Rattle.of_switch.specs.Steps.{Outcome, gives, coming, next_by, next_of}
-use Rattle.of_switch.specs.Runs.{behind_effects, then_more, drain, drained}
+use Rattle.of_switch.specs.{State.State, Runs.behind_effects, Runs.then_more, Runs.drain, Runs.drained}
 
 -- as many bytes as an outcome leaves
 abbrev left : Outcome → ℕ

@@ -2,13 +2,9 @@
 use Rattle.std.proofs.Common.{◌≡◌, ℕ, true, List, [], ◌∷◌, ◌++◌, take, drop, refl}
 use Rattle.std.specs.Prelude.{replicate}
 use Rattle.of_datapath.specs.declared.effect.Effect.TheVariants.{Answer, Sent, Closed}
-use Rattle.of_switch.specs.declared.port_change.PortChange.TheVariants.{Add}
-use Rattle.of_switch.specs.declared.switch_error.SwitchError.TheVariants.{NotConnected}
-use Rattle.of_switch.specs.declared.event.Event.{Event}
+use Rattle.of_switch.specs.{declared.port_change.PortChange.TheVariants.Add, declared.switch_error.SwitchError.TheVariants.NotConnected, declared.event.Event.Event}
 use Rattle.of_switch.specs.declared.event.Event.TheVariants.{Connect, Chunk, Frame, Ports}
-use Rattle.of_switch.specs.State.{start}
-use Rattle.of_switch.specs.Runs.{Report, Gives, IsRefused, run}
-use Rattle.of_switch.proofs.OnLiterals.{switch_on_literals}
+use Rattle.of_switch.{specs.State.start, specs.Runs.Report, specs.Runs.Gives, specs.Runs.IsRefused, specs.Runs.run, proofs.OnLiterals.switch_on_literals}
 
 -- BYTES
 

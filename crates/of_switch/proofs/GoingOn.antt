@@ -3,14 +3,9 @@ use Rattle.std.proofs.Common.{◌≡◌, ℕ, ◌+◌, ◌<◌, Bool, true, fals
 use Rattle.std.proofs.lemmas.List.{append-nil}
 use Rattle.of_session.specs.Session.{is_disconnected}
 use Rattle.of_datapath.specs.declared.effect.Effect.{Effect}
-use Rattle.of_switch.specs.declared.event.Event.{Event}
-use Rattle.of_switch.specs.declared.event.Event.TheVariants.{Chunk}
-use Rattle.of_switch.specs.declared.switch_error.SwitchError.{SwitchError}
-use Rattle.of_switch.specs.State.{State}
-use Rattle.of_switch.specs.Steps.{Outcome, gives, fed}
-use Rattle.of_switch.specs.Calls.{feed_refusal}
 use Rattle.of_switch.specs.Runs.{behind_effects, drained, chunk_in, Report, Gives, IsRefused, Happened, happened, unless_refusal, run, effects_in, AllGive, IsBrokenOff, IsInterrupted, StopsWithin, RunsAll, rest_of}
-use Rattle.of_switch.proofs.Joining.{drained_gone}
+use Rattle.of_switch.specs.{declared.event.Event.Event, declared.event.Event.TheVariants.Chunk, declared.switch_error.SwitchError.SwitchError, State.State, Steps.Outcome, Steps.gives, Steps.fed}
+use Rattle.of_switch.{specs.Calls.feed_refusal, proofs.Joining.drained_gone}
 
 effects_in-append : (xs ys : List Report) → effects_in (xs ++ ys) ≡ effects_in xs ++ effects_in ys
 effects_in-append [] ys = refl

@@ -1,13 +1,9 @@
 -- A change of groups that is refused.
 use Rattle.std.proofs.Common.{◌≡◌, Option, Some, Err, sym, ap}
 use Rattle.of_wire.specs.Refusals.{first_of}
-use Rattle.of_groups.specs.declared.group_fault.GroupFault.{GroupFault}
 use Rattle.of_groups.specs.declared.group_fault.GroupFault.TheVariants.{BadWatch, NotOneBucket, Exists, Full, Unknown, AbsentGroup, AbsentWatch, LongChain, Named, NoMemory}
-use Rattle.of_groups.specs.Faults.{fault_in}
-use Rattle.of_switch.specs.GroupMods.{refused_for}
-use Rattle.of_switch.specs.Handling.{Handles, fault_of}
-use Rattle.of_switch.specs.State.{Core}
-use Rattle.of_switch.specs.Steps.{Done}
+use Rattle.of_groups.specs.{declared.group_fault.GroupFault.GroupFault, Faults.fault_in}
+use Rattle.of_switch.specs.{GroupMods.refused_for, Handling.Handles, Handling.fault_of, State.Core, Steps.Done}
 
 pub fault_told : (fault : GroupFault) (found : Option GroupFault) (d : Done) (old new : Core) → Some fault ≡ found → new ≡ old → Handles (first_of (refused_for found)) d old (Err (fault_of fault)) new
 fault_told BadWatch found d old new e same = (ap (λ f. first_of (refused_for f)) (sym e), same)

@@ -1,16 +1,12 @@
 -- A message that is handled: done, or refused.
 use Rattle.std.proofs.Common.{◌≡◌, ℕ, List, [], ◌∷◌, Option, Some, None, ◌∙◌, ap, sym, refl}
-use Rattle.of_wire.specs.declared.code.Code.{Code}
-use Rattle.of_wire.specs.Refusals.{first_of}
-use Rattle.of_messages.specs.declared.message.Message.{Message}
-use Rattle.of_messages.specs.Written.{error_bytes}
-use Rattle.of_session.specs.declared.session.Next.{Next}
+use Rattle.of_wire.specs.{declared.code.Code.Code, Refusals.first_of}
+use Rattle.of_messages.specs.{declared.message.Message.Message, Written.error_bytes}
 use Rattle.of_session.specs.declared.session.Next.TheVariants.{Nothing, BadStream, NotHello, Opened, Read, Refused}
-use Rattle.of_session.specs.Session.{message_taken}
-use Rattle.of_datapath.specs.declared.effect.Effect.{Effect}
-use Rattle.of_datapath.specs.declared.effect.Effect.TheVariants.{Answer}
-use Rattle.of_switch.specs.State.{Core, State}
+use Rattle.of_session.specs.{declared.session.Next.Next, Session.message_taken}
+use Rattle.of_datapath.specs.{declared.effect.Effect.Effect, declared.effect.Effect.TheVariants.Answer}
 use Rattle.of_switch.specs.Steps.{does, done, state_refusals, refused, unless_refused, handled, gives, failed_of, coming, next_by, IsRefusedWith}
+use Rattle.of_switch.specs.State.{Core, State}
 
 handled_by : (xid : ℕ) (m : Message) (failed : List ℕ) (k : Core) (o : Option Code) → first_of (state_refusals m k) ≡ o → handled xid m failed k ≡ unless_refused o xid failed k (done xid m k)
 unfolding handled

@@ -1,36 +1,24 @@
 -- Frames that are held, and the messages that name them.
 use Rattle.std.proofs.Common.{◌≡◌, ℕ, ◌<◌, ◌==◌, Bool, true, false, cond, List, [], ◌∷◌, Option, Some, None, refl, sym, ap, ◌∙◌, arith}
-use Rattle.std.proofs.lemmas.Bool.Decides.{nat_tests}
-use Rattle.of_datapath.specs.Buffers.{Held, HeldFrames}
+use Rattle.std.{specs.List.list_any, specs.Prelude.nat_le, proofs.lemmas.Bool.Decides.nat_tests}
+use Rattle.of_datapath.specs.Commands.{commanded, commanded_by, flow_of, packet_out_frame, has_flag, is_to_absent_group, packet_out_refusals, selector_of, unless_any, without_packet}
+use Rattle.of_datapath.specs.{Buffers.Held, Buffers.HeldFrames, declared.control.AsyncConfig.AsyncConfig, declared.control.Control.Control, declared.effect.Effect.Effect, Control.heard_of}
+use Rattle.of_datapath.specs.{Applying.without_used, Numbers.without_numbers, Datapath.Forwarded, Datapath.Forwarding, Datapath.through, Datapath.without_held}
 use Rattle.of_groups.specs.declared.group.Group.{Group}
 use Rattle.of_ports.specs.declared.port.Port.{Port}
-use Rattle.std.specs.List.{list_any}
-use Rattle.std.specs.Prelude.{nat_le}
 use Rattle.of_wire.specs.Refusals.{first_of}
 use Rattle.of_actions.specs.declared.action.Action.{Action}
 use Rattle.of_machine.specs.Rows.{Lookup, acts, entering}
-use Rattle.of_messages.specs.declared.message.PacketOut.{PacketOut}
-use Rattle.of_messages.specs.declared.message.FlowMod.{FlowMod}
-use Rattle.of_messages.specs.declared.message.FlowModCommand.{FlowModCommand}
+use Rattle.of_messages.specs.{declared.message.PacketOut.PacketOut, declared.message.FlowMod.FlowMod, declared.message.FlowModCommand.FlowModCommand}
 use Rattle.of_messages.specs.declared.message.FlowModCommand.TheVariants.{Add, Modify, Delete}
 use Rattle.of_messages.specs.Messages.{is_delete}
-use Rattle.of_table.specs.Copied.{NumberedCopy, swapped_in}
-use Rattle.of_table.specs.Entries.{table_of}
-use Rattle.of_table.specs.declared.flow.Flow.{Flow}
-use Rattle.of_table.specs.declared.table_fault.TableFault.TheVariants.{BadTable, Overlap, Full}
 use Rattle.of_table.specs.Table.{Table, add_flow_fault, added, is_full, is_overlapped}
 use Rattle.of_table.specs.Tables.{NumberedTables, Tables, table_at, tables_fault, tables_of, with_table}
+use Rattle.of_table.specs.{Copied.NumberedCopy, Copied.swapped_in, Entries.table_of, declared.flow.Flow.Flow}
+use Rattle.of_table.specs.declared.table_fault.TableFault.TheVariants.{BadTable, Overlap, Full}
 use Rattle.of_table.proofs.CopiedLemmas.{restored, restored_modified}
-use Rattle.of_datapath.specs.declared.control.AsyncConfig.{AsyncConfig}
-use Rattle.of_datapath.specs.declared.control.Control.{Control}
-use Rattle.of_datapath.specs.declared.effect.Effect.{Effect}
-use Rattle.of_datapath.specs.Control.{heard_of}
-use Rattle.of_datapath.specs.Commands.{commanded, commanded_by, flow_of, packet_out_frame, has_flag, is_to_absent_group, packet_out_refusals, selector_of, unless_any, without_packet}
-use Rattle.of_datapath.specs.Applying.{without_used}
-use Rattle.of_datapath.specs.Numbers.{without_numbers}
-use Rattle.of_datapath.specs.Datapath.{Forwarded, Forwarding, through, without_held}
-use Rattle.of_switch.specs.State.{Core}
 use Rattle.of_switch.specs.Steps.{Done, after_command, after_packet_out, held_frame_begun, does, forwarded, with_tables}
+use Rattle.of_switch.specs.State.{Core}
 
 -- a held frame begins
 pub begun_is : (id : ℕ) (k : Core) (h : Held) (found : Option Held) (heard : AsyncConfig) (bytes : List ℕ) (ingress : ℕ) (d : Forwarded) (effects : List Effect) (f : Forwarding)

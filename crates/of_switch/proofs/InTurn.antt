@@ -1,24 +1,18 @@
 -- A chunk handles the messages that its bytes and those before it are, one after the other.
 use Rattle.std.proofs.Common.{◌≡◌, ℕ, ◌⊎◌, inl, inr, Bool, true, false, cond, List, [], ◌∷◌, ◌++◌, length, take, drop, Option, Some, None, refl, sym, ◌∙◌, ap, subst, arith, append_assoc}
-use Rattle.std.proofs.lemmas.List.{append-nil, drop_all}
-use Rattle.of_session.specs.declared.session.Phase.{Phase}
-use Rattle.of_session.specs.declared.session.Phase.TheVariants.{Disconnected, Greeting, Open}
-use Rattle.of_session.specs.declared.session.Next.{Next}
+use Rattle.std.{specs.Prelude.Result, specs.Prelude.Ok, specs.Prelude.Err, specs.Prelude.unwrap_or, proofs.lemmas.List.append-nil, proofs.lemmas.List.drop_all}
 use Rattle.of_session.specs.declared.session.Next.TheVariants.{Nothing, BadStream, NotHello, Opened, Read, Refused}
 use Rattle.of_session.specs.Stream.{First, Whole, Bad, Partial, beginning_of, IsWholeMessage, IsMalformed, IsPartial, concat, AreMessages, Splits}
 use Rattle.of_session.specs.Session.{is_disconnected, is_first_hello, read_as, judged, next_by_beginning as next_at, IsNextSized}
-use Rattle.of_session.proofs.Fronts.{message_front, malformed_front, partial_front}
-use Rattle.of_messages.specs.declared.message.Message.{Message}
-use Rattle.of_messages.specs.declared.role.Role.{Role}
-use Rattle.of_messages.specs.Heads.{xid_of}
-use Rattle.of_messages.specs.Messages.{message_from}
+use Rattle.of_session.specs.{declared.session.Phase.Phase, declared.session.Phase.TheVariants.Disconnected, declared.session.Phase.TheVariants.Greeting, declared.session.Phase.TheVariants.Open}
+use Rattle.of_session.{specs.declared.session.Next.Next, proofs.Fronts.message_front, proofs.Fronts.malformed_front, proofs.Fronts.partial_front}
+use Rattle.of_messages.specs.{declared.message.Message.Message, declared.role.Role.Role, Heads.xid_of, Messages.message_from}
 use Rattle.of_wire.specs.declared.code.Code.{Code}
-use Rattle.std.specs.Prelude.{Result, Ok, Err, unwrap_or}
 use Rattle.of_datapath.specs.declared.effect.Effect.{Effect}
-use Rattle.of_switch.specs.State.{State}
 use Rattle.of_switch.specs.Steps.{Outcome, gives, fed, coming, next_by, next_of}
 use Rattle.of_switch.specs.Runs.{behind_effects, drained, chunk_in, come, holding, handled_alone, handled_in_turn}
 use Rattle.of_switch.proofs.Joining.{come_open, come_gone, step_more, drained_more, drained_none, drained_gone}
+use Rattle.of_switch.specs.State.{State}
 
 greeted_size : (m : List ℕ) (t : Bool) → IsNextSized (cond t (Opened (length m)) (NotHello (xid_of m))) (length m)
 greeted_size m true = refl

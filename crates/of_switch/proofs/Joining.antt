@@ -1,20 +1,15 @@
 -- Bytes that come in two chunks do what they do in one.
 use Rattle.std.proofs.Common.{◌≡◌, ℕ, ◌+◌, ◌<◌, ◌≤◌, suc, zero, Bool, true, false, List, [], ◌++◌, length, take, drop, Option, Some, None, refl, sym, ◌∙◌, ap, subst, arith, append_assoc, add-one}
-use Rattle.std.proofs.lemmas.List.{take-append-le, drop-append-le}
-use Rattle.std.proofs.lemmas.Option.{same_Some}
+use Rattle.std.proofs.{lemmas.List.take-append-le, lemmas.List.drop-append-le, lemmas.Option.same_Some}
 use Rattle.of_wire.specs.Refusals.{refusal}
 use Rattle.of_messages.specs.Written.{error_bytes}
-use Rattle.of_session.specs.declared.session.Phase.{Phase}
-use Rattle.of_session.specs.declared.session.Phase.TheVariants.{Open}
-use Rattle.of_session.specs.declared.session.Next.{Next}
 use Rattle.of_session.specs.declared.session.Next.TheVariants.{Nothing, BadStream, NotHello, Opened, Read, Refused}
-use Rattle.of_session.specs.Session.{Connection, is_disconnected, entered}
+use Rattle.of_session.specs.{declared.session.Phase.Phase, declared.session.Phase.TheVariants.Open, declared.session.Next.Next, Session.Connection, Session.is_disconnected, Session.entered}
 use Rattle.of_session.proofs.Nexts.{IsSizedIn, next_sized, IsSomething, next_more}
 use Rattle.of_datapath.specs.declared.effect.Effect.{Effect}
-use Rattle.of_switch.specs.State.{State}
 use Rattle.of_switch.specs.Steps.{Outcome, Done, does, beside, gives, fed, handled, refused, failed_of, closing, coming, next_by, next_of}
 use Rattle.of_switch.specs.Runs.{behind_effects, then_more, drain, drained, chunk_in, come}
-use Rattle.of_switch.proofs.Draining.{next_shorter}
+use Rattle.of_switch.{specs.State.State, proofs.Draining.next_shorter}
 
 same_by : (n m : ℕ) (s : State) (o : Option Outcome) → next_of s ≡ o → ((t : State) → length t.connection.pending < length s.connection.pending → drain n t ≡ drain m t) → then_more (drain n) s o ≡ then_more (drain m) s o
 same_by n m s None e ih = refl

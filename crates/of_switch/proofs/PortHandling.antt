@@ -3,8 +3,7 @@ use Rattle.std.proofs.Common.{◌≡◌, true, false, not, List, Some, None, ref
 use Rattle.std.specs.Str.{bytes_eq}
 use Rattle.of_wire.specs.Refusals.{refusal, first_of}
 use Rattle.of_messages.specs.declared.port_mod.PortMod.{PortMod}
-use Rattle.of_ports.specs.declared.port.Port.{Port}
-use Rattle.of_ports.specs.Ports.{port_at}
+use Rattle.of_ports.specs.{declared.port.Port.Port, Ports.port_at}
 use Rattle.of_switch.specs.PortMods.{port_mod_refusals}
 
 pub refused_absent : (m : PortMod) (ports : List Port) → port_at ports m.port ≡ None → first_of (port_mod_refusals m ports) ≡ Some (refusal 7 0)

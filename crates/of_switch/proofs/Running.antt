@@ -1,18 +1,11 @@
 -- Events, one after the other.
 use Rattle.std.proofs.Common.{◌≡◌, ℕ, ◌+◌, ◌<◌, suc, List, [], ◌∷◌, ◌++◌, length, get_or, take, drop, None, Result, Ok, Err, inl, refl, sym, ◌∙◌, ap, subst, arith, append_assoc, add-one, drop-cons}
-use Rattle.std.proofs.lemmas.List.{append-nil, map-append, take-append-drop}
+use Rattle.std.{specs.declared.alloc.AllocError.AllocError, specs.Prelude.OnErr, proofs.lemmas.List.append-nil, proofs.lemmas.List.map-append, proofs.lemmas.List.take-append-drop}
 use Rattle.std.proofs.Math.Seq.{take-suc}
-use Rattle.std.specs.declared.alloc.AllocError.{AllocError}
 use Rattle.of_datapath.specs.declared.effect.Effect.{Effect}
-use Rattle.of_switch.specs.declared.event.Event.{Event}
-use Rattle.of_switch.specs.declared.event.Report.{Report as Reported}
-use Rattle.std.specs.Prelude.{OnErr}
-use Rattle.of_switch.specs.State.{State}
-use Rattle.of_switch.specs.Steps.{Outcome, gives, next_of}
 use Rattle.of_switch.specs.Runs.{behind_effects, drained, Report, Gives, report_of, reports_of, Happened, happened, Run, run, IsInterrupted, StopsWithin, RunsAll}
-use Rattle.of_switch.specs.Stepping.{Happens, Drains}
-use Rattle.of_switch.proofs.Draining.{Left, left_all}
-use Rattle.of_switch.proofs.Joining.{drain_same}
+use Rattle.of_switch.specs.{declared.event.Event.Event, declared.event.Report.Report as Reported, State.State, Steps.Outcome, Steps.gives, Steps.next_of, Stepping.Happens, Stepping.Drains}
+use Rattle.of_switch.proofs.{Draining.Left, Draining.left_all, Joining.drain_same}
 
 -- A CHUNK
 

@@ -1,24 +1,15 @@
 -- The invariants that join tables and groups are kept by each call.
 use Rattle.std.proofs.Common.{◌≡◌, ℕ, ◌≤◌, Bool, false, List, Option, Result, Ok, Err, sym, ◌∙◌, ap, subst}
-use Rattle.std.specs.Prelude.{IfOk, OnOk, OnErr}
+use Rattle.std.specs.{Prelude.IfOk, Prelude.OnOk, Prelude.OnErr, declared.alloc.AllocError.AllocError}
 use Rattle.of_actions.specs.declared.instruction.Instruction.{Instruction}
-use Rattle.of_groups.specs.declared.group.Group.{Group}
-use Rattle.of_groups.specs.Groups.{with_group, groups_left}
+use Rattle.of_groups.specs.{declared.group.Group.Group, Groups.with_group, Groups.groups_left}
 use Rattle.of_ports.specs.declared.port.Port.{Port}
-use Rattle.of_table.specs.declared.flow.Flow.{Flow}
-use Rattle.of_table.specs.declared.selection.Selector.{Selector}
-use Rattle.of_table.specs.declared.selection.Cause.TheVariants.{Group as OfGroup}
 use Rattle.of_table.specs.Tables.{NumberedTables, tables_of, added_to, modified_in, left_in}
+use Rattle.of_table.specs.{declared.flow.Flow.Flow, declared.selection.Selector.Selector, declared.selection.Cause.TheVariants.Group as OfGroup, declared.selection.Cause.Cause}
 use Rattle.smallvec.specs.SmallVec.{SmallVec}
-use Rattle.std.specs.declared.alloc.AllocError.{AllocError}
-use Rattle.of_table.specs.declared.selection.Cause.{Cause}
-use Rattle.of_datapath.specs.declared.effect.Effect.{Effect}
-use Rattle.of_datapath.specs.Commands.{names_absent_group}
-use Rattle.of_datapath.specs.Buffers.{HeldFrames}
-use Rattle.of_datapath.specs.Numbers.{Contents, contents, without_numbers}
-use Rattle.of_datapath.specs.Datapath.{Forwarded, Forwarding, forwards}
-use Rattle.of_datapath.specs.Standing.{GroupsExist}
 use Rattle.of_datapath.proofs.StandingLemmas.{removed_stands, flow_stands, modify_stands, put_stands, groups_left_stand}
+use Rattle.of_datapath.specs.{declared.effect.Effect.Effect, Commands.names_absent_group, Buffers.HeldFrames, Numbers.Contents, Numbers.contents, Numbers.without_numbers}
+use Rattle.of_datapath.specs.{Datapath.Forwarded, Datapath.Forwarding, Datapath.forwards, Standing.GroupsExist}
 
 -- a call does this, or runs out of memory
 pub called_stands : (r : Result (SmallVec Effect) AllocError) (d : Forwarded) (n m : NumberedTables) (gs hs : List Group) (ps qs : List Port) (b c : HeldFrames) → IfOk r (λ effects. d ≡ forwards effects.items (without_numbers m hs qs c)) → OnErr r (contents m hs qs c ≡ contents n gs ps b) → GroupsExist d.forwarding → GroupsExist (without_numbers n gs ps b) → GroupsExist (without_numbers m hs qs c)

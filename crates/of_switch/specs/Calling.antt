@@ -3,17 +3,12 @@ use Rattle.std.specs.Prelude.{◌≡◌, ℕ, Bool, true, false, not, List, [], 
 use Rattle.std.specs.Option.{option_map}
 use Rattle.smallvec.specs.SmallVec.{SmallVec}
 use Rattle.of_datapath.specs.declared.effect.Effect.{Effect}
-use Rattle.of_switch.specs.declared.event.Event.{Event}
-use Rattle.of_switch.specs.declared.event.Event.TheVariants as event
-use Rattle.of_switch.specs.declared.port_change.PortChange.{PortChange}
-use Rattle.of_switch.specs.declared.switch_error.SwitchError.{SwitchError}
-use Rattle.of_switch.specs.declared.switch_error.SwitchError.TheVariants.{NoMemory}
-use Rattle.of_text.specs.Configs.{Configuration}
-use Rattle.of_switch.specs.State.{State}
-use Rattle.of_switch.specs.Loading.{loaded}
 use Rattle.of_switch.specs.Steps.{gives, connected, lost, fed, next_of, frame_in, moment_in, port_changed}
-use Rattle.of_switch.specs.Calls.{Call, connect_refusal, feed_refusal, port_refusal}
+use Rattle.of_switch.specs.{declared.event.Event.Event, declared.port_change.PortChange.PortChange, declared.switch_error.SwitchError.SwitchError}
+use Rattle.of_switch.specs.{declared.switch_error.SwitchError.TheVariants.NoMemory, State.State, Loading.loaded, Calls.Call, Calls.connect_refusal, Calls.feed_refusal, Calls.port_refusal}
 use Rattle.of_switch.specs.Runs.{Report, Gives, IsRefused}
+use Rattle.of_switch.specs.declared.event.Event.TheVariants as event
+use Rattle.of_text.specs.Configs.{Configuration}
 
 -- a call that has effects answers them, or why it did nothing
 abbrev pub CallAnswer : Type 0

@@ -2,13 +2,11 @@
 use Rattle.std.specs.Prelude.{◌≡◌, ℕ, nat_le, Bool, not, List, [], ◌∷◌, length, Option, Some, None, Result, Ok, Err, if◌then◌else◌}
 use Rattle.of_wire.specs.declared.limits.TheConstants.{MOST_PORTS}
 use Rattle.of_session.specs.Session.{is_disconnected}
-use Rattle.of_switch.specs.declared.switch_error.SwitchError.{SwitchError}
 use Rattle.of_switch.specs.declared.switch_error.SwitchError.TheVariants.{NoMemory, NotConnected, Connected, PortExists, NoSuchPort, TooManyPorts, BadPortNumber}
-use Rattle.of_switch.specs.declared.port_change.PortChange.{PortChange}
-use Rattle.of_switch.specs.declared.port_change.PortChange.TheVariants.{Add, Remove, Link}
+use Rattle.of_switch.specs.{declared.switch_error.SwitchError.SwitchError, declared.port_change.PortChange.PortChange}
+use Rattle.of_switch.specs.{declared.port_change.PortChange.TheVariants.Add, declared.port_change.PortChange.TheVariants.Remove, declared.port_change.PortChange.TheVariants.Link, State.State}
 use Rattle.of_actions.specs.PortNumbers.{is_number}
 use Rattle.of_ports.specs.Ports.{has_port}
-use Rattle.of_switch.specs.State.{State}
 
 -- the numbers of the refusals; 2 is no longer used
 abbrev pub error_number : SwitchError → ℕ

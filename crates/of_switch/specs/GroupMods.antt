@@ -1,9 +1,7 @@
 -- Why a GROUP_MOD is refused, by the groups that exist (OpenFlow 1.3.5, 6.5, 7.3.4.2 and 7.4.4).
 use Rattle.std.specs.Prelude.{ℕ, Bool, true, List, [], ◌∷◌, Option, Some, None}
 use Rattle.of_wire.specs.declared.code.Code.{Code}
-use Rattle.of_groups.specs.declared.group.Group.{Group}
-use Rattle.of_groups.specs.declared.group_fault.GroupFault.{GroupFault}
-use Rattle.of_groups.specs.Groups.{modified_group, new_group}
+use Rattle.of_groups.specs.{declared.group.Group.Group, declared.group_fault.GroupFault.GroupFault, Groups.modified_group, Groups.new_group}
 use Rattle.of_groups.specs.Faults.{add_fault, code_of, delete_fault, modify_fault}
 use Rattle.of_messages.specs.declared.group_mod.GroupMod.{GroupMod}
 use Rattle.of_messages.specs.declared.group_mod.GroupMod.TheVariants.{Add, Modify, Delete}

@@ -1,17 +1,11 @@
 -- What the handling of a message returns.
 use Rattle.std.specs.Prelude.{◌≡◌, ℕ, List, Option, Some, None, Result, Ok, Err}
-use Rattle.smallvec.specs.SmallVec.{SmallVec}
-use Rattle.of_wire.specs.declared.codes.TheConstants.{OFPBRC_BUFFER_UNKNOWN}
-use Rattle.of_wire.specs.declared.code.Code.{Code}
-use Rattle.of_wire.specs.Refusals.{refusal}
 use Rattle.std.specs.Option.{option_map_or}
-use Rattle.of_groups.specs.declared.group_fault.GroupFault.{GroupFault}
-use Rattle.of_groups.specs.Faults.{code_of}
+use Rattle.smallvec.specs.SmallVec.{SmallVec}
+use Rattle.of_wire.specs.{declared.codes.TheConstants.OFPBRC_BUFFER_UNKNOWN, declared.code.Code.Code, Refusals.refusal}
+use Rattle.of_groups.specs.{declared.group_fault.GroupFault.GroupFault, Faults.code_of}
 use Rattle.of_datapath.specs.declared.effect.Effect.{Effect}
-use Rattle.of_switch.specs.declared.switch_core.Fault.{Fault}
-use Rattle.of_switch.specs.declared.switch_core.Fault.TheVariants.{Memory, Refused}
-use Rattle.of_switch.specs.State.{Core}
-use Rattle.of_switch.specs.Steps.{Done, does}
+use Rattle.of_switch.specs.{declared.switch_core.Fault.Fault, declared.switch_core.Fault.TheVariants.Memory, declared.switch_core.Fault.TheVariants.Refused, State.Core, Steps.Done, Steps.does}
 
 -- a change of groups that is refused, or that ran out of memory
 abbrev pub fault_of : GroupFault → Fault

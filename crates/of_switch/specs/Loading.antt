@@ -1,9 +1,7 @@
 -- CONFIGURATIONS of a switch: loaded, and told (OpenFlow 1.3.5, 5.1, 5.2 and 5.6).
-use Rattle.of_text.specs.Groups.{groups_at}
-use Rattle.of_text.specs.Configs.{Configuration}
+use Rattle.of_text.specs.{Groups.groups_at, Configs.Configuration}
 use Rattle.of_datapath.specs.Loading.{configuration_of, loaded_tables}
-use Rattle.of_switch.specs.Steps.{core_with_groups, with_tables}
-use Rattle.of_switch.specs.State.{Core, State}
+use Rattle.of_switch.specs.{Steps.core_with_groups, Steps.with_tables, State.Core, State.State}
 
 -- the groups and the tables are replaced, and all else of the core stays
 abbrev pub loaded_core : Configuration → Core → Core

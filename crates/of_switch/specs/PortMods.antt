@@ -1,13 +1,9 @@
 -- Why a PORT_MOD is refused, by the ports that exist (OpenFlow 1.3.5, 7.3.4.3 and 7.4.4).
 use Rattle.std.specs.Prelude.{Bool, false, not, List, [], ◌∷◌}
-use Rattle.std.specs.Option.{is_some, option_map_or}
-use Rattle.std.specs.Str.{bytes_eq}
-use Rattle.of_wire.specs.declared.codes.TheConstants.{OFPPMFC_BAD_HW_ADDR, OFPPMFC_BAD_PORT}
-use Rattle.of_wire.specs.declared.code.Code.{Code}
+use Rattle.std.specs.{Option.is_some, Option.option_map_or, Str.bytes_eq}
+use Rattle.of_wire.specs.{declared.codes.TheConstants.OFPPMFC_BAD_HW_ADDR, declared.codes.TheConstants.OFPPMFC_BAD_PORT, declared.code.Code.Code}
 use Rattle.of_messages.specs.declared.port_mod.PortMod.{PortMod}
-use Rattle.of_ports.specs.declared.port.Port.{Port}
-use Rattle.of_ports.specs.Config.{configured}
-use Rattle.of_ports.specs.Ports.{port_at, with_config}
+use Rattle.of_ports.specs.{declared.port.Port.Port, Config.configured, Ports.port_at, Ports.with_config}
 
 -- the port exists, with another hardware address
 abbrev pub has_other_address : PortMod → List Port → Bool

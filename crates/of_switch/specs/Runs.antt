@@ -1,16 +1,12 @@
 -- Messages until there is none, and the run of any list of events.
-use Rattle.std.specs.Prelude.{◌≡◌, ◌⊎◌, ℕ, ◌+◌, ◌<◌, suc, zero, List, [], ◌∷◌, ◌++◌, length, map, Option, Some, None, if◌then◌else◌}
-use Rattle.std.specs.Prelude.{unwrap_or}
+use Rattle.std.specs.Prelude.{◌≡◌, ◌⊎◌, ℕ, ◌+◌, ◌<◌, suc, zero, List, [], ◌∷◌, ◌++◌, length, map, Option, Some, None, if◌then◌else◌, unwrap_or}
 use Rattle.of_session.specs.Session.{is_disconnected}
-use Rattle.of_switch.specs.declared.switch_error.SwitchError.{SwitchError}
-use Rattle.of_datapath.specs.declared.effect.Effect.{Effect}
-use Rattle.of_switch.specs.declared.event.Event.{Event}
 use Rattle.of_switch.specs.declared.event.Event.TheVariants.{Connect, Lost, Chunk, Frame, Moment, Ports}
-use Rattle.of_switch.specs.declared.event.Report.{Report as Reported}
-use Rattle.of_switch.specs.declared.event.Report.TheVariants as reported
-use Rattle.of_switch.specs.State.{State}
 use Rattle.of_switch.specs.Steps.{Outcome, gives, connected, lost, fed, next_of, frame_in, moment_in, port_changed}
+use Rattle.of_switch.specs.{declared.switch_error.SwitchError.SwitchError, declared.event.Event.Event, declared.event.Report.Report as Reported, State.State}
 use Rattle.of_switch.specs.Calls.{connect_refusal, feed_refusal, port_refusal}
+use Rattle.of_datapath.specs.declared.effect.Effect.{Effect}
+use Rattle.of_switch.specs.declared.event.Report.TheVariants as reported
 
 -- effects before those of an outcome
 abbrev pub behind_effects : List Effect → Outcome → Outcome

@@ -1,9 +1,7 @@
 -- The abstract switch.
 use Rattle.std.specs.Prelude.{ℕ}
 use Rattle.of_session.specs.Session.{Connection, alone}
-use Rattle.of_datapath.specs.declared.control.Control.{Control}
-use Rattle.of_datapath.specs.Control.{new_control}
-use Rattle.of_datapath.specs.Datapath.{Forwarding, idle}
+use Rattle.of_datapath.specs.{declared.control.Control.Control, Control.new_control, Datapath.Forwarding, Datapath.idle}
 
 -- what messages, frames and moments act on: they neither read nor write the connection
 pub record Core : Type 0 where

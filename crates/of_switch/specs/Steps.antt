@@ -1,48 +1,31 @@
 -- What each event does to the abstract switch.
 use Rattle.std.specs.Prelude.{◌≡◌, ℕ, max, Bool, List, [], ◌∷◌, ◌++◌, map, take, Option, Some, None, if◌then◌else◌}
-use Rattle.of_wire.specs.declared.codes.TheConstants.{OFPBRC_BAD_LEN, OFPHFC_INCOMPATIBLE}
-use Rattle.of_wire.specs.declared.code.Code.{Code}
-use Rattle.of_wire.specs.Refusals.{first_of}
-use Rattle.of_messages.specs.declared.message.Message.{Message}
+use Rattle.of_wire.specs.{declared.codes.TheConstants.OFPBRC_BAD_LEN, declared.codes.TheConstants.OFPHFC_INCOMPATIBLE, declared.code.Code.Code, Refusals.first_of}
 use Rattle.of_messages.specs.declared.message.Message.TheVariants.{EchoRequest, FeaturesRequest, GetConfigRequest, SetConfig, BarrierRequest, FlowMod as IsFlowMod, PacketOut as IsPacketOut, GroupMod as IsGroupMod, PortMod as IsPortMod, Multipart, RoleRequest as IsRoleRequest, GetAsyncRequest, SetAsync}
-use Rattle.of_messages.specs.declared.message.PacketOut.{PacketOut}
-use Rattle.of_messages.specs.declared.port_mod.PortMod.{PortMod}
-use Rattle.of_messages.specs.declared.port_mod.PortStatusReason.TheVariants as port
-use Rattle.of_messages.specs.declared.message.FlowMod.{FlowMod}
-use Rattle.of_messages.specs.declared.group_mod.GroupMod.{GroupMod}
-use Rattle.of_messages.specs.declared.group_mod.GroupMod.TheVariants as group_mod
-use Rattle.of_messages.specs.declared.role.RoleRequest.{RoleRequest}
-use Rattle.of_messages.specs.declared.multipart.MultipartRequest.{MultipartRequest}
-use Rattle.of_messages.specs.declared.async_masks.AsyncMasks.{AsyncMasks}
-use Rattle.of_messages.specs.declared.config.SwitchConfig.{SwitchConfig}
 use Rattle.of_messages.specs.Written.{hello_bytes, error_bytes, echo_reply_bytes, barrier_reply_bytes, features_reply_bytes, config_reply_bytes, role_reply_bytes, async_reply_bytes}
-use Rattle.of_session.specs.declared.session.Next.{Next}
+use Rattle.of_messages.specs.{declared.message.Message.Message, declared.message.PacketOut.PacketOut, declared.port_mod.PortMod.PortMod, declared.message.FlowMod.FlowMod}
+use Rattle.of_messages.specs.{declared.group_mod.GroupMod.GroupMod, declared.role.RoleRequest.RoleRequest, declared.multipart.MultipartRequest.MultipartRequest}
+use Rattle.of_messages.specs.{declared.async_masks.AsyncMasks.AsyncMasks, declared.config.SwitchConfig.SwitchConfig}
+use Rattle.of_messages.specs.declared.port_mod.PortStatusReason.TheVariants as port
+use Rattle.of_messages.specs.declared.group_mod.GroupMod.TheVariants as group_mod
 use Rattle.of_session.specs.declared.session.Next.TheVariants.{Nothing, BadStream, NotHello, Opened, Read, Refused}
 use Rattle.of_session.specs.Session.{Connection, alone, is_disconnected, greeting, with_received as fed_connection, entered, next_of_connection as next_in}
-use Rattle.of_table.specs.declared.selection.Cause.TheVariants.{Group}
+use Rattle.of_session.specs.declared.session.Next.{Next}
 use Rattle.of_table.specs.Tables.{Tables, expired, expiry_notices, left_in, notices_in}
-use Rattle.of_groups.specs.declared.bucket.Bucket.{Bucket}
-use Rattle.of_groups.specs.declared.group.Group.{Group as AGroup}
-use Rattle.of_groups.specs.declared.group.GroupKind.{GroupKind}
+use Rattle.of_table.specs.declared.selection.Cause.TheVariants.{Group}
+use Rattle.of_groups.specs.{declared.bucket.Bucket.Bucket, declared.group.Group.Group as AGroup, declared.group.GroupKind.GroupKind}
 use Rattle.of_groups.specs.Groups.{groups_left, modified_group, new_group, with_group}
-use Rattle.of_datapath.specs.Buffers.{Held, forgotten}
-use Rattle.of_machine.specs.Rows.{acts, entering}
 use Rattle.of_datapath.specs.Commands.{flow_mod_refusals, commanded, command_notices, notice_effects, packet_out_refusals, packet_out_frame, frame_named, without_packet}
-use Rattle.of_switch.specs.GroupMods.{group_mod_fault, refused_for}
-use Rattle.of_datapath.specs.declared.control.AsyncConfig.{AsyncConfig}
-use Rattle.of_datapath.specs.Control.{heard_of, heard_while, released}
-use Rattle.of_datapath.specs.declared.effect.Effect.{Effect}
-use Rattle.of_datapath.specs.declared.effect.Effect.TheVariants.{Answer, Closed}
-use Rattle.of_switch.specs.declared.port_change.PortChange.{PortChange}
-use Rattle.of_switch.specs.declared.port_change.PortChange.TheVariants.{Add, Remove, Link}
-use Rattle.of_ports.specs.declared.port.Port.{Port}
-use Rattle.of_ports.specs.Ports.{new_port, port_at, with_port, without_port, changed_at_port, linked, with_config}
-use Rattle.of_datapath.specs.PortStatus.{status_told, change_told}
-use Rattle.of_switch.specs.PortMods.{port_mod_refusals, modified_port}
-use Rattle.of_datapath.specs.Roles.{generation_refusals, with_role}
-use Rattle.of_datapath.specs.Statistics.{absent_port_refusals, multipart_bytes}
+use Rattle.of_datapath.specs.{Buffers.Held, Buffers.forgotten, declared.control.AsyncConfig.AsyncConfig, Control.heard_of, Control.heard_while, Control.released, declared.effect.Effect.Effect}
+use Rattle.of_datapath.specs.{declared.effect.Effect.TheVariants.Answer, declared.effect.Effect.TheVariants.Closed, PortStatus.status_told, PortStatus.change_told}
+use Rattle.of_datapath.specs.{Roles.generation_refusals, Roles.with_role, Statistics.absent_port_refusals, Statistics.multipart_bytes}
 use Rattle.of_datapath.specs.Datapath.{Forwarded, framed, started, through}
-use Rattle.of_switch.specs.State.{Core, State}
+use Rattle.of_machine.specs.Rows.{acts, entering}
+use Rattle.of_switch.specs.{GroupMods.group_mod_fault, GroupMods.refused_for, declared.port_change.PortChange.PortChange}
+use Rattle.of_switch.specs.declared.port_change.PortChange.TheVariants.{Add, Remove, Link}
+use Rattle.of_switch.specs.{PortMods.port_mod_refusals, PortMods.modified_port, State.Core, State.State}
+use Rattle.of_ports.specs.Ports.{new_port, port_at, with_port, without_port, changed_at_port, linked, with_config}
+use Rattle.of_ports.specs.declared.port.Port.{Port}
 
 -- A MESSAGE (7.3): its effects and the core after it, whatever the connection
 

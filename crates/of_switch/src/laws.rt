@@ -1,25 +1,18 @@
 //! Laws of the abstract switch.
 ghost use Rattle.std.specs.Prelude.{◌≡◌, ◌≢◌, ◌<◌, ◌+◌, ◌++◌, ◌∷◌, [], ℕ, List, Some, None, true, false, length, map, take, flat_map, slice_get};
-ghost use Rattle.of_wire.specs.declared.limits.TheConstants.{OFP_NO_BUFFER};
+ghost use Rattle.of_wire.specs.{declared.limits.TheConstants.OFP_NO_BUFFER, declared.code.Code.Code as ErrorCode};
 ghost use Rattle.of_datapath.specs.Buffers.{HeldFrames, held, is_id, last_id, most_held};
-ghost use Rattle.of_machine.specs.declared.data.Item.{Item};
-ghost use Rattle.of_machine.specs.declared.data.Item.TheVariants.{PacketIn};
-ghost use Rattle.of_machine.specs.declared.data.ToController.{ToController};
-ghost use Rattle.of_ports.specs.declared.port.Port.{Port};
-ghost use Rattle.of_datapath.specs.declared.control.AsyncConfig.{AsyncConfig};
-ghost use Rattle.of_wire.specs.declared.code.Code.{Code as ErrorCode};
-ghost use Rattle.of_messages.specs.Written.{error_bytes};
-ghost use Rattle.of_session.specs.Session.{is_disconnected, message_taken};
-ghost use Rattle.of_session.specs.Stream.{Splits};
-ghost use Rattle.of_datapath.specs.declared.effect.Effect.TheVariants.{Answer};
 ghost use Rattle.of_datapath.specs.Told.{effects_of, frames_for, given_items, held_after, held_of, id_after_all, is_held, limit_of, packet_in_of};
+ghost use Rattle.of_datapath.specs.{declared.control.AsyncConfig.AsyncConfig, declared.effect.Effect.TheVariants.Answer};
+ghost use Rattle.of_machine.specs.{declared.data.Item.Item, declared.data.Item.TheVariants.PacketIn, declared.data.ToController.ToController};
+ghost use Rattle.of_ports.specs.declared.port.Port.{Port};
+ghost use Rattle.of_messages.specs.Written.{error_bytes};
+ghost use Rattle.of_session.specs.{Session.is_disconnected, Session.message_taken, Stream.Splits};
 ghost use Rattle.of_text.specs.Configs.{Configuration, IsConfig};
-ghost use Rattle.of_switch.specs.Loading.{config_of, loaded};
 ghost use Rattle.of_switch.specs.Calling.{AreMade, Deed, Made, calls_of, event_of, others, deed_report};
-ghost use Rattle.of_switch.specs.State.{State};
 ghost use Rattle.of_switch.specs.Steps.{IsRefusedWith, coming, failed_of, gives, next_of};
-ghost use Rattle.of_switch.specs.declared.event.Event.{Event};
 ghost use Rattle.of_switch.specs.Runs.{Report, RunsAll, StopsWithin, behind_effects, come, drained, effects_in, handled_in_turn, chunk_in, rest_of, run};
+ghost use Rattle.of_switch.specs.{Loading.config_of, Loading.loaded, State.State, declared.event.Event.Event};
 
 /// Bytes that come in two chunks do what they do in one.
 ///

@@ -1,20 +1,13 @@
 //! The switch.
-ghost use Rattle.std.specs.Prelude.{◌≡◌, ◌≤◌, ◌<◌, ◌∷◌, ◌++◌, ◌+◌, [], true, IfOk, IfErr, IfNone, OnOk, OnErr, None, length, take, vec_len, vec_capacity};
-ghost use Rattle.std.specs.Option.{option_map};
-ghost use Rattle.std.specs.Result.{result_err};
+ghost use Rattle.std.specs.Prelude.{◌≡◌, ◌≤◌, ◌<◌, ◌∷◌, ◌++◌, ◌+◌, [], true, IfOk, IfErr, IfNone, OnOk, OnErr, None, length, take, vec_len, vec_capacity, not};
+ghost use Rattle.std.specs.{Option.option_map, Result.result_err};
 ghost use Rattle.of_messages.specs.Written.{error_bytes};
-ghost use Rattle.of_session.specs.Session.{IsSoundNext, IsNextReceived};
-ghost use Rattle.of_switch.specs.State.{start};
-ghost use Rattle.of_datapath.specs.DryRun.{GainsPrefix, steps_in};
-ghost use Rattle.of_datapath.specs.Numbers.{forwarding_of};
-ghost use Rattle.of_machine.specs.Weights.{frame_step_bound};
+ghost use Rattle.of_session.specs.Session.{IsSoundNext, IsNextReceived, is_disconnected};
 ghost use Rattle.of_switch.specs.Steps.{came, closing as closing_with, connected, does, failed_of, fed, frame_in, heard_in, lost as lost_from, moment_in, gives, next_of, port_changed};
 ghost use Rattle.of_switch.specs.Calls.{Call, absent_refusal, connect_refusal, feed_refusal, new_refusal, port_refusal};
-ghost use Rattle.of_switch.specs.Loading.{config_of, loaded};
-ghost use Rattle.of_switch.specs.Runs.{RunsAll, StopsWithin, reports_of};
-ghost use Rattle.of_switch.specs.Stepping.{Drains, Happens, TellsCall};
-ghost use Rattle.std.specs.Prelude.{not};
-ghost use Rattle.of_session.specs.Session.{is_disconnected};
+ghost use Rattle.of_switch.specs.{State.start, Loading.config_of, Loading.loaded, Runs.RunsAll, Runs.StopsWithin, Runs.reports_of, Stepping.Drains, Stepping.Happens, Stepping.TellsCall};
+ghost use Rattle.of_datapath.specs.{DryRun.GainsPrefix, DryRun.steps_in, Numbers.forwarding_of};
+ghost use Rattle.of_machine.specs.Weights.{frame_step_bound};
 
 use crate::event::{Event, Report};
 use crate::port_change::PortChange;

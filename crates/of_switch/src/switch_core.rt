@@ -1,30 +1,16 @@
 //! What messages, frames and moments do, whatever the connection.
-ghost use Rattle.std.specs.Prelude.{◌≡◌, ◌<◌, ◌≤◌, ◌∷◌, [], true, false, IfOk, OnOk, OnErr, length, map};
+ghost use Rattle.std.specs.Prelude.{◌≡◌, ◌<◌, ◌≤◌, ◌∷◌, [], true, false, IfOk, OnOk, OnErr, length, map, IfErr, Some};
 ghost use Rattle.of_wire.specs.Refusals.{first_of};
-ghost use Rattle.of_switch.specs.State.{new_core};
-ghost use Rattle.of_ports.specs.Ports.{has_port, new_port, port_at};
-ghost use Rattle.of_switch.specs.PortMods.{port_mod_refusals};
-ghost use Rattle.of_table.specs.Tables.{modified_in, left_in, notices_in};
-ghost use Rattle.of_actions.specs.FlowCheck.{all_go_with};
-ghost use Rattle.of_actions.specs.InstructionLists.{are_for};
-ghost use Rattle.of_messages.specs.Promised.{IsSoundFlowMod, IsSoundGroupMod, IsSoundMessage, IsSoundPacket};
-ghost use Rattle.std.specs.Prelude.{IfErr, Some};
-ghost use Rattle.of_datapath.specs.Buffers.{held};
-ghost use Rattle.of_messages.specs.Messages.{is_delete as is_delete_command};
-ghost use Rattle.of_switch.specs.Handling.{IsUnlessHeld};
-ghost use Rattle.of_datapath.specs.Commands.{add_refusals, packet_out_frame as packet_frame, names_absent_group as naming_absent_group, packet_out_refusals, flow_mod_refusals, has_flag as with_flag, notice_effects, selector_of};
-ghost use Rattle.of_datapath.specs.Datapath.{framed};
-ghost use Rattle.of_datapath.specs.Numbers.{forwarding_of};
-ghost use Rattle.of_groups.specs.Groups.{modified_group, new_group};
-ghost use Rattle.of_groups.specs.Faults.{add_fault, delete_fault, modify_fault};
-ghost use Rattle.of_switch.specs.GroupMods.{group_mod_fault, refused_for};
-ghost use Rattle.of_datapath.specs.Control.{heard_of};
-ghost use Rattle.of_datapath.specs.Roles.{generation_refusals};
-ghost use Rattle.of_datapath.specs.Statistics.{multipart_bytes, absent_port_refusals};
-ghost use Rattle.of_switch.specs.Handling.{Handles};
-ghost use Rattle.of_datapath.specs.Loading.{configuration_of};
-ghost use Rattle.of_switch.specs.Loading.{loaded_core};
 ghost use Rattle.of_switch.specs.Steps.{after_command, held_frame_begun, does, done, after_flow_mod, then_does, forwarded, group_added, after_group_mod, group_modified, groups_deleted, linked_at, after_packet_out, port_added, after_port_mod, removed_at, replied, role_asked, state_refusals, with_tables, without_connection, moment_done};
+ghost use Rattle.of_switch.specs.{State.new_core, PortMods.port_mod_refusals, Handling.IsUnlessHeld, Handling.Handles, GroupMods.group_mod_fault, GroupMods.refused_for, Loading.loaded_core};
+ghost use Rattle.of_ports.specs.Ports.{has_port, new_port, port_at};
+ghost use Rattle.of_table.specs.Tables.{modified_in, left_in, notices_in};
+ghost use Rattle.of_actions.specs.{FlowCheck.all_go_with, InstructionLists.are_for};
+ghost use Rattle.of_messages.specs.{Promised.IsSoundFlowMod, Promised.IsSoundGroupMod, Promised.IsSoundMessage, Promised.IsSoundPacket, Messages.is_delete as is_delete_command};
+ghost use Rattle.of_datapath.specs.Commands.{add_refusals, packet_out_frame as packet_frame, names_absent_group as naming_absent_group, packet_out_refusals, flow_mod_refusals, has_flag as with_flag, notice_effects, selector_of};
+ghost use Rattle.of_datapath.specs.{Buffers.held, Datapath.framed, Numbers.forwarding_of, Control.heard_of, Roles.generation_refusals, Statistics.multipart_bytes, Statistics.absent_port_refusals};
+ghost use Rattle.of_datapath.specs.Loading.{configuration_of};
+ghost use Rattle.of_groups.specs.{Groups.modified_group, Groups.new_group, Faults.add_fault, Faults.delete_fault, Faults.modify_fault};
 
 use of_actions::InstructionList;
 use of_classifier::Lookup;
@@ -107,8 +93,7 @@ pub struct Core<L: Lookup> {
 
 impl<L: Lookup> Model for Core<L> {
     ghost use Rattle.of_switch.specs.State.{Core};
-    ghost use Rattle.of_datapath.specs.Numbers.{forwarding_of};
-    ghost use Rattle.of_datapath.specs.Standing.{GroupsExist};
+    ghost use Rattle.of_datapath.specs.{Numbers.forwarding_of, Standing.GroupsExist};
 
     ghost Value = { Core };
 

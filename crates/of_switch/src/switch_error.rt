@@ -1,7 +1,6 @@
 //! Why a call did nothing.
 ghost use Rattle.std.specs.Prelude.{◌≡◌};
-ghost use Rattle.of_switch.specs.Calls.{error_number};
-ghost use Rattle.of_switch.specs.declared.switch_error.SwitchError.TheVariants.{NoMemory};
+ghost use Rattle.of_switch.specs.{Calls.error_number, declared.switch_error.SwitchError.TheVariants.NoMemory};
 
 use std::alloc::AllocError;
 use thiserror::Error;

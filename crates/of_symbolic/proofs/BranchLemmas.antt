@@ -1,21 +1,12 @@
 -- Branches of a part.
 use Rattle.std.proofs.Common.{◌≡◌, ◌⊎◌, ◌<◌, ◌≤◌, ◌+◌, ℕ, zero, suc, true, false, List, [], ◌∷◌, ◌++◌, length, Option, Some, None, refl, sym, ap, subst, ◌∙◌, arith, inl, inr, below_more}
-use Rattle.std.specs.Prelude.{slice_get}
-use Rattle.std.specs.List.{Contains}
-use Rattle.std.specs.Global.{Vec}
-use Rattle.std.proofs.lemmas.Bool.{cases_lt}
-use Rattle.std.proofs.lemmas.List.Elements.{Contains-append_left, Contains-push, Contains-push_cases}
-use Rattle.std.proofs.lemmas.Option.{slice_get_past}
+use Rattle.std.{specs.Prelude.slice_get, specs.List.Contains, specs.Global.Vec, proofs.lemmas.Bool.cases_lt}
+use Rattle.std.proofs.{lemmas.List.Elements.Contains-append_left, lemmas.List.Elements.Contains-push, lemmas.List.Elements.Contains-push_cases, lemmas.Option.slice_get_past}
 use Rattle.of_layers.specs.declared.field.Field.{Field}
 use Rattle.of_oxm.specs.declared.match_field.MatchField.{MatchField}
-use Rattle.of_regions.specs.Regions.{IsSomeTagging}
-use Rattle.of_regions.proofs.SearchLemmas.{contains_at}
-use Rattle.of_symbolic.specs.declared.branching.Branch.{Branch}
-use Rattle.of_symbolic.specs.declared.branching.Rank.{Rank}
-use Rattle.of_symbolic.specs.declared.part.Part.{Part}
-use Rattle.of_symbolic.specs.declared.pulled_entry.PulledEntry.{PulledEntry}
-use Rattle.of_symbolic.specs.Branches.{HaveDistinctEntries}
+use Rattle.of_regions.{specs.Regions.IsSomeTagging, proofs.SearchLemmas.contains_at}
 use Rattle.of_symbolic.specs.Branching.{AddsBranch, AddsHit, HasOneMore, IsAhead, IsBranchBehind, IsHitAt, IsHitBranch, IsHitOrMiss, IsPartBehind, IsPartBehindAll, NoEntryAhead, is_agreed, ranked_place}
+use Rattle.of_symbolic.specs.{declared.branching.Branch.Branch, declared.branching.Rank.Rank, declared.part.Part.Part, declared.pulled_entry.PulledEntry.PulledEntry, Branches.HaveDistinctEntries}
 use Rattle.of_symbolic.specs.Parts.{AreListsOfConditions, InPart, IsMatchedPart, IsUnmatchedPart}
 
 -- ---- behind entries

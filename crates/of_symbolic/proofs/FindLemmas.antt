@@ -1,21 +1,12 @@
 -- What a search in a part finds.
 use Rattle.std.proofs.Common.{◌≡◌, ◌⊎◌, ◌<◌, ℕ, zero, suc, true, false, List, [], ◌∷◌, length, get_or, map, Option, refl, sym, ap, subst, ◌∙◌, arith, inl, inr}
-use Rattle.std.specs.List.{Contains}
-use Rattle.std.specs.Global.{Vec}
-use Rattle.of_layers.specs.declared.field.Field.{Field}
-use Rattle.of_layers.specs.Reading.{layers_of}
+use Rattle.std.specs.{List.Contains, Global.Vec}
+use Rattle.of_layers.specs.{declared.field.Field.Field, Reading.layers_of}
 use Rattle.of_headers.specs.FieldMap.{field_map}
-use Rattle.of_oxm.specs.declared.match_field.MatchField.{MatchField}
-use Rattle.of_oxm.specs.Relations.{matches_map}
-use Rattle.of_regions.specs.declared.rival.Rival.{Rival}
-use Rattle.of_regions.specs.declared.searching.Found.{Found}
+use Rattle.of_oxm.specs.{declared.match_field.MatchField.MatchField, Relations.matches_map}
+use Rattle.of_regions.specs.{declared.rival.Rival.Rival, declared.searching.Found.Found, Conditions.AreConditions, Searching.IsFoundBySearch, Searching.IsUnrivalled, Witness.fields_in}
 use Rattle.of_regions.specs.declared.searching.Found.TheVariants as found
-use Rattle.of_regions.specs.Conditions.{AreConditions}
-use Rattle.of_regions.specs.Searching.{IsFoundBySearch, IsUnrivalled}
-use Rattle.of_regions.specs.Witness.{fields_in}
-use Rattle.of_symbolic.specs.declared.part.Part.{Part}
-use Rattle.of_symbolic.specs.Parts.{FindsInPart, HaveConditions, NoneOfMatches}
-use Rattle.of_symbolic.proofs.PartLemmas.{none_of}
+use Rattle.of_symbolic.{specs.declared.part.Part.Part, specs.Parts.FindsInPart, specs.Parts.HaveConditions, specs.Parts.NoneOfMatches, proofs.PartLemmas.none_of}
 
 first_or_behind : {X : Type 0} (y x : X) (xs : List X) → Contains (y ∷ xs) x → Contains xs x ⊎ (y ≡ x)
 first_or_behind {X} y x xs c = at c.0 c.1 c.2

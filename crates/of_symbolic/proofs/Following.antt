@@ -1,11 +1,7 @@
 -- What is known of a packet after one more action.
 use Rattle.std.proofs.Common.{◌≡◌, ℕ, ◌%◌, ◌^◌, Bool, true, false, cond, eqb, Option, Some, refl, sym, ap, ◌∙◌}
-use Rattle.std.specs.Prelude.{bit_and}
-use Rattle.std.proofs.lemmas.Bool.{eqb-true}
-use Rattle.std.proofs.lemmas.Nat.{and_mask}
-use Rattle.of_layers.specs.declared.field.Field.{Field}
-use Rattle.of_layers.specs.declared.field.Field.TheVariants.{InPort}
-use Rattle.of_layers.specs.Fields.{row_of, number_of, bit_count, ones_of}
+use Rattle.std.{specs.Prelude.bit_and, proofs.lemmas.Bool.eqb-true, proofs.lemmas.Nat.and_mask}
+use Rattle.of_layers.specs.{declared.field.Field.Field, declared.field.Field.TheVariants.InPort, Fields.row_of, Fields.number_of, Fields.bit_count, Fields.ones_of}
 use Rattle.of_layers.proofs.Table.{same_number}
 
 -- the bits of a field are the low bits of a number

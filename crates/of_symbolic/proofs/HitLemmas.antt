@@ -1,33 +1,17 @@
 -- The entry that a packet hits, by what the entries ask of the frame that came in.
 use Rattle.std.proofs.Common.{◌≡◌, ◌⊎◌, ◌<◌, ◌≤◌, ◌+◌, ℕ, zero, suc, Bool, true, false, List, [], ◌∷◌, length, Option, Some, None, refl, sym, ap, subst, ◌∙◌, arith, inl, inr}
-use Rattle.std.specs.Prelude.{slice_get}
-use Rattle.std.specs.Global.{Vec}
-use Rattle.std.proofs.lemmas.Bool.{cases_lt}
-use Rattle.std.proofs.lemmas.Option.{slice_get_cases, slice_get_past}
+use Rattle.std.{specs.Prelude.slice_get, specs.Global.Vec, proofs.lemmas.Bool.cases_lt, proofs.lemmas.Option.slice_get_cases, proofs.lemmas.Option.slice_get_past}
 use Rattle.of_layers.specs.declared.field.Field.{Field}
-use Rattle.of_oxm.specs.declared.match_field.MatchField.{MatchField}
-use Rattle.of_oxm.specs.Relations.{matches_map}
-use Rattle.of_rewrite.specs.Frames.{IsFrame}
-use Rattle.of_rewrite.specs.Views.{view_of}
+use Rattle.of_oxm.specs.{declared.match_field.MatchField.MatchField, Relations.matches_map}
+use Rattle.of_rewrite.specs.{Frames.IsFrame, Views.view_of}
 use Rattle.of_actions.specs.declared.action.Action.{Action}
-use Rattle.of_classifier.specs.declared.Row.{Row}
-use Rattle.of_classifier.specs.Rows.{made_row}
-use Rattle.of_classifier.specs.Winner.{NoneMatches, Wins, winner_number, winner_of}
+use Rattle.of_classifier.specs.{declared.Row.Row, Rows.made_row, Winner.NoneMatches, Winner.Wins, Winner.winner_number, Winner.winner_of}
 use Rattle.of_classifier.proofs.WinnerLaw.{none_both, wins_both}
 use Rattle.of_table.specs.Table.{FlowEntry, rows_from, winner_place}
-use Rattle.of_symbolic.specs.declared.branching.Branch.{Branch}
-use Rattle.of_symbolic.specs.declared.overlay.Overlay.{Overlay}
-use Rattle.of_symbolic.specs.declared.part.Part.{Part}
-use Rattle.of_symbolic.specs.declared.pulled_entry.PulledEntry.{PulledEntry}
-use Rattle.of_symbolic.specs.Actions.{AreRewriting}
-use Rattle.of_symbolic.specs.Branches.{AreBranches, rewritten_fields}
 use Rattle.of_symbolic.specs.Branching.{ArePulledEntries, IsHitAt, IsHitOrMiss, IsPulledEntry, NoEntryAhead, is_agreed, pulled_of}
-use Rattle.of_symbolic.specs.Overlays.{IsOverlay}
-use Rattle.of_symbolic.specs.InnerTags.{description_of, inner_told}
-use Rattle.of_symbolic.specs.Pulling.{IsPulled}
-use Rattle.of_symbolic.proofs.BranchLemmas.{AreHitBranches}
-use Rattle.of_symbolic.proofs.Lookups.{never_of_frames, when_of_frames}
-use Rattle.of_symbolic.proofs.PartLemmas.{some_tagging}
+use Rattle.of_symbolic.specs.{declared.branching.Branch.Branch, declared.overlay.Overlay.Overlay, declared.part.Part.Part, declared.pulled_entry.PulledEntry.PulledEntry, Actions.AreRewriting}
+use Rattle.of_symbolic.specs.{Branches.AreBranches, Branches.rewritten_fields, Overlays.IsOverlay, InnerTags.description_of, InnerTags.inner_told, Pulling.IsPulled}
+use Rattle.of_symbolic.proofs.{BranchLemmas.AreHitBranches, Lookups.never_of_frames, Lookups.when_of_frames, PartLemmas.some_tagging}
 
 -- ---- rows of a classifier and entries that were pulled
 

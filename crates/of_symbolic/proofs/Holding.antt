@@ -1,24 +1,18 @@
 -- What a field of a match asks of the frame that came in is what it asks of the packet.
 use Rattle.std.proofs.Common.{◌≡◌, ℕ, ◌+◌, ◌/◌, ◌%◌, ◌^◌, ◌<◌, Bool, true, false, cond, eqb, List, [], ◌∷◌, Option, Some, None, refl, sym, ap, subst, ◌∙◌, arith}
 use Rattle.std.specs.Prelude.{bit_and, IfSome, is_some, not, slice_get, unwrap_or, ◌&&◌, ⊤}
-use Rattle.std.specs.Option.{option_map, option_map_or}
-use Rattle.std.proofs.lemmas.Bool.{eqb-true, eqb-false, ne_eqb, eq-eqb}
-use Rattle.of_layers.specs.declared.field.Field.{Field}
-use Rattle.of_layers.specs.declared.field.Field.TheVariants.{VlanVid, VlanPcp}
+use Rattle.std.{specs.Option.option_map, specs.Option.option_map_or, proofs.lemmas.Bool.eqb-true, proofs.lemmas.Bool.eqb-false, proofs.lemmas.Bool.ne_eqb, proofs.lemmas.Bool.eq-eqb}
+use Rattle.of_layers.specs.{declared.field.Field.Field, declared.field.Field.TheVariants.VlanVid, declared.field.Field.TheVariants.VlanPcp}
 use Rattle.of_headers.specs.FieldMap.{vid}
-use Rattle.of_oxm.specs.declared.match_field.MatchField.{MatchField}
-use Rattle.of_oxm.specs.Relations.{agrees, bits_looked_at}
+use Rattle.of_oxm.specs.{declared.match_field.MatchField.MatchField, Relations.agrees, Relations.bits_looked_at}
 use Rattle.of_rewrite.specs.Views.{Tag, outermost}
+use Rattle.of_symbolic.specs.Asking.{any_value, by_tag, field_asked, own_pcp, own_vid, pcp_asked, pushed_pcp, pushed_vid, tagged_vid, vid_asked, vid_bits, with_tag, without_tag}
+use Rattle.of_symbolic.proofs.VidBits.{and_zero, none_left, present_bit, vid_agrees, vid_under, zero_and}
 use Rattle.of_symbolic.specs.declared.asking.Asked.{Asked}
 use Rattle.of_symbolic.specs.declared.asking.Asked.TheVariants.{Never, Open, Nothing, Asks}
-use Rattle.of_symbolic.specs.declared.overlay.PushedTag.{PushedTag}
-use Rattle.of_symbolic.specs.declared.overlay.ReceivedTag.{ReceivedTag}
-use Rattle.of_symbolic.specs.declared.overlay.TagNumber.{TagNumber}
+use Rattle.of_symbolic.specs.{declared.overlay.PushedTag.PushedTag, declared.overlay.ReceivedTag.ReceivedTag, declared.overlay.TagNumber.TagNumber}
 use Rattle.of_symbolic.specs.declared.overlay.TagNumber.TheVariants.{Value, Received, IfTagged, Unknown}
-use Rattle.of_symbolic.specs.Asking.{any_value, by_tag, field_asked, own_pcp, own_vid, pcp_asked, pushed_pcp, pushed_vid, tagged_vid, vid_asked, vid_bits, with_tag, without_tag}
-use Rattle.of_symbolic.specs.Overlays.{with_value}
-use Rattle.of_symbolic.specs.Tags.{AreTagsAfter, IsNumber, own_tags}
-use Rattle.of_symbolic.proofs.VidBits.{and_zero, none_left, present_bit, vid_agrees, vid_under, zero_and}
+use Rattle.of_symbolic.specs.{Overlays.with_value, Tags.AreTagsAfter, Tags.IsNumber, Tags.own_tags}
 
 -- whether the field of the match agrees is what it asks of the frame's fields
 abbrev pub Holds : Asked → Bool → (Field → Option ℕ) → Type 0

@@ -1,33 +1,23 @@
 -- What is asked of the inner tag, which METADATA of a description tells.
 use Rattle.std.proofs.Common.{◌≡◌, ◌⊎◌, ℕ, ◌+◌, ◌*◌, ◌%◌, ◌^◌, ◌<◌, ◌≤◌, Bool, true, false, cond, eqb, drop, Option, Some, None, refl, sym, ap, subst, ◌∙◌, arith, inl, inr}
 use Rattle.std.specs.Prelude.{bit_and, IfSome, is_some, not, slice_get, ◌&&◌, ⊤}
-use Rattle.std.specs.Option.{option_map}
-use Rattle.std.proofs.lemmas.Bool.{cases_eq, eq-eqb, ne_eqb}
+use Rattle.std.{specs.Option.option_map, proofs.lemmas.Bool.cases_eq, proofs.lemmas.Bool.eq-eqb, proofs.lemmas.Bool.ne_eqb}
 use Rattle.std.proofs.lemmas.Nat.{and_block, and_le_l, and_le_r, and_mask}
 use Rattle.of_layers.specs.declared.field.Field.{Field}
 use Rattle.of_layers.specs.declared.field.Field.TheVariants.{InPort, Metadata, VlanVid, VlanPcp}
 use Rattle.of_layers.specs.Fields.{ones_of, row_of}
 use Rattle.of_headers.specs.FieldMap.{value, vid}
-use Rattle.of_oxm.specs.declared.match_field.MatchField.{MatchField}
-use Rattle.of_oxm.specs.NormalForm.{IsKept}
-use Rattle.of_oxm.specs.Relations.{agrees, bits_looked_at}
+use Rattle.of_oxm.specs.{declared.match_field.MatchField.MatchField, NormalForm.IsKept, Relations.agrees, Relations.bits_looked_at}
 use Rattle.of_rewrite.specs.Views.{Tag, View, fields_seen, outermost}
-use Rattle.of_regions.specs.Conditions.{IsCondition}
-use Rattle.of_regions.proofs.NarrowingLemmas.{kept_condition}
+use Rattle.of_regions.{specs.Conditions.IsCondition, proofs.NarrowingLemmas.kept_condition}
+use Rattle.of_symbolic.specs.Asking.{asked_at, asked_of_tag, by_tag, field_asked, inner_field, own_pcp, own_vid, pcp_asked, pushed_pcp, pushed_vid, vid_asked, vid_bits}
+use Rattle.of_symbolic.proofs.Holding.{Holds, IsVid, Says, field_holds, holds_same, pcp_holds, vid_holds}
 use Rattle.of_symbolic.specs.declared.asking.Asked.{Asked}
 use Rattle.of_symbolic.specs.declared.asking.Asked.TheVariants.{Never, Open, Nothing, Asks}
-use Rattle.of_symbolic.specs.declared.overlay.Overlay.{Overlay}
-use Rattle.of_symbolic.specs.declared.overlay.PushedTag.{PushedTag}
-use Rattle.of_symbolic.specs.declared.overlay.ReceivedTag.{ReceivedTag}
-use Rattle.of_symbolic.specs.declared.overlay.TagNumber.{TagNumber}
+use Rattle.of_symbolic.specs.{declared.overlay.Overlay.Overlay, declared.overlay.PushedTag.PushedTag, declared.overlay.ReceivedTag.ReceivedTag, declared.overlay.TagNumber.TagNumber}
 use Rattle.of_symbolic.specs.declared.overlay.TagNumber.TheVariants.{Value, Received, IfTagged, Unknown}
-use Rattle.of_symbolic.specs.Asking.{asked_at, asked_of_tag, by_tag, field_asked, inner_field, own_pcp, own_vid, pcp_asked, pushed_pcp, pushed_vid, vid_asked, vid_bits}
-use Rattle.of_symbolic.specs.InnerTags.{description_of_view, inner_told, number_of_tag}
-use Rattle.of_symbolic.specs.Overlays.{Shows, tags_in, with_value}
-use Rattle.of_symbolic.specs.Tags.{is_inner, tags_from}
-use Rattle.of_symbolic.proofs.Holding.{Holds, IsVid, Says, field_holds, holds_same, pcp_holds, vid_holds}
-use Rattle.of_symbolic.proofs.Keeping.{KeptIfAsked, field_kept, pcp_kept, vid_kept}
-use Rattle.of_symbolic.proofs.VidBits.{present_bit}
+use Rattle.of_symbolic.specs.{InnerTags.description_of_view, InnerTags.inner_told, InnerTags.number_of_tag, Overlays.Shows, Overlays.tags_in, Overlays.with_value, Tags.is_inner, Tags.tags_from}
+use Rattle.of_symbolic.proofs.{Keeping.KeptIfAsked, Keeping.field_kept, Keeping.pcp_kept, Keeping.vid_kept, VidBits.present_bit}
 
 -- ---- what is asked of a tag is about its VID or its PCP
 

@@ -1,30 +1,20 @@
 -- What is asked of the frame that came in is a field of a match in normal form, or one that agrees with each value; and what is open is unknown.
 use Rattle.std.proofs.Common.{◌≡◌, ℕ, ◌-◌, ◌/◌, ◌%◌, ◌^◌, ◌≤◌, ◌≢◌, Bool, true, false, cond, eqb, Option, Some, None, refl, sym, ap, ◌∙◌, arith}
 use Rattle.std.specs.Prelude.{bit_and, IfSome, not, slice_get, unwrap_or, ◌&&◌, ◌||◌, ⊤}
-use Rattle.std.proofs.lemmas.Bool.{eqb-false}
-use Rattle.std.proofs.lemmas.Nat.{and_mask, and_mod}
+use Rattle.std.proofs.{lemmas.Bool.eqb-false, lemmas.Nat.and_mask, lemmas.Nat.and_mod}
 use Rattle.of_layers.specs.declared.field.Field.{Field}
 use Rattle.of_layers.specs.declared.field.Field.TheVariants.{InPort, Metadata, VlanVid, VlanPcp}
 use Rattle.of_layers.specs.Fields.{row_of, ones_of}
 use Rattle.of_headers.specs.FieldMap.{value}
-use Rattle.of_oxm.specs.declared.match_field.MatchField.{MatchField}
-use Rattle.of_oxm.specs.NormalForm.{IsKept, IsKeptMask}
-use Rattle.of_oxm.specs.Relations.{agrees, bits_looked_at}
+use Rattle.of_oxm.specs.{declared.match_field.MatchField.MatchField, NormalForm.IsKept, NormalForm.IsKeptMask, Relations.agrees, Relations.bits_looked_at}
 use Rattle.of_oxm.proofs.Joined.{covered}
+use Rattle.of_symbolic.specs.Asking.{any_value, asked_at, asked_of_tag, by_tag, field_asked, is_received, own_pcp, own_vid, pcp_asked, pushed_pcp, pushed_vid, vid_asked, vid_bits, with_tag, without_tag}
 use Rattle.of_symbolic.specs.declared.asking.Asked.{Asked}
 use Rattle.of_symbolic.specs.declared.asking.Asked.TheVariants.{Never, Open, Nothing, Asks}
-use Rattle.of_symbolic.specs.declared.overlay.Overlay.{Overlay}
-use Rattle.of_symbolic.specs.declared.overlay.PushedTag.{PushedTag}
-use Rattle.of_symbolic.specs.declared.overlay.ReceivedTag.{ReceivedTag}
-use Rattle.of_symbolic.specs.declared.overlay.TagNumber.{TagNumber}
+use Rattle.of_symbolic.specs.{declared.overlay.Overlay.Overlay, declared.overlay.PushedTag.PushedTag, declared.overlay.ReceivedTag.ReceivedTag, declared.overlay.TagNumber.TagNumber}
 use Rattle.of_symbolic.specs.declared.overlay.TagNumber.TheVariants.{Value, Received, IfTagged, Unknown}
-use Rattle.of_symbolic.specs.Asking.{any_value, asked_at, asked_of_tag, by_tag, field_asked, is_received, own_pcp, own_vid, pcp_asked, pushed_pcp, pushed_vid, vid_asked, vid_bits, with_tag, without_tag}
-use Rattle.of_regions.specs.Conditions.{IsCondition}
-use Rattle.of_regions.proofs.NarrowingLemmas.{any_value as any_value_condition, kept_condition}
-use Rattle.of_symbolic.specs.Overlaid.{is_number_known}
-use Rattle.of_symbolic.specs.Pulling.{is_pcp_unknown, is_unknown_at, is_vid_unknown}
-use Rattle.of_symbolic.specs.Tags.{is_inner}
-use Rattle.of_symbolic.proofs.Holding.{IsVid}
+use Rattle.of_symbolic.{specs.Overlaid.is_number_known, specs.Pulling.is_pcp_unknown, specs.Pulling.is_unknown_at, specs.Pulling.is_vid_unknown, specs.Tags.is_inner, proofs.Holding.IsVid}
+use Rattle.of_regions.{specs.Conditions.IsCondition, proofs.NarrowingLemmas.any_value as any_value_condition, proofs.NarrowingLemmas.kept_condition}
 
 -- ---- VLAN_VID
 

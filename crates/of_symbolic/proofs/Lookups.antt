@@ -1,22 +1,14 @@
 -- What is pulled is true of frames.
 use Rattle.std.proofs.Common.{◌≡◌, ℕ, Bool, false, List, [], ◌∷◌, Option, refl, sym, ◌∙◌, Vec, Global}
 use Rattle.std.specs.Prelude.{◌&&◌}
-use Rattle.of_layers.specs.declared.field.Field.{Field}
-use Rattle.of_layers.specs.Reading.{layers_of}
+use Rattle.of_layers.specs.{declared.field.Field.Field, Reading.layers_of}
 use Rattle.of_headers.specs.FieldMap.{field_map}
-use Rattle.of_oxm.specs.declared.match_field.MatchField.{MatchField}
-use Rattle.of_oxm.specs.Relations.{agrees, matches_map}
-use Rattle.of_rewrite.specs.Frames.{IsFrame}
-use Rattle.of_rewrite.specs.Views.{IsView, fields_seen, view_of}
-use Rattle.of_rewrite.proofs.Viewing.{seen}
+use Rattle.of_oxm.specs.{declared.match_field.MatchField.MatchField, Relations.agrees, Relations.matches_map}
+use Rattle.of_rewrite.{specs.Frames.IsFrame, specs.Views.IsView, specs.Views.fields_seen, specs.Views.view_of, proofs.Viewing.seen}
 use Rattle.of_actions.specs.declared.action.Action.{Action}
-use Rattle.of_symbolic.specs.declared.pulling.Pulled.TheVariants.{Never, Unknown, When}
-use Rattle.of_symbolic.specs.declared.pulling.Pulled.{Pulled}
-use Rattle.of_symbolic.specs.Actions.{AreRewriting, frame_of_actions, view_of_actions}
-use Rattle.of_symbolic.specs.InnerTags.{description_of, inner_told}
-use Rattle.of_symbolic.specs.Pulling.{IsPulled, IsTrueOfFrames}
-use Rattle.of_symbolic.proofs.Rewriting.{stays_frame, views_follow_all}
-use Rattle.of_symbolic.proofs.Vids.{frame_small}
+use Rattle.of_symbolic.specs.{declared.pulling.Pulled.TheVariants.Never, declared.pulling.Pulled.TheVariants.Unknown, declared.pulling.Pulled.TheVariants.When, declared.pulling.Pulled.Pulled}
+use Rattle.of_symbolic.specs.{Actions.AreRewriting, Actions.frame_of_actions, Actions.view_of_actions, InnerTags.description_of, InnerTags.inner_told, Pulling.IsPulled, Pulling.IsTrueOfFrames}
+use Rattle.of_symbolic.proofs.{Rewriting.stays_frame, Rewriting.views_follow_all, Vids.frame_small}
 
 pub same_match : (m : List MatchField) (f g : Field → Option ℕ) → ((x : Field) → f x ≡ g x) → matches_map m f ≡ matches_map m g
 same_match [] f g h = refl

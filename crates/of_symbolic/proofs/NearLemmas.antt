@@ -1,17 +1,11 @@
 -- Entries near a part.
 use Rattle.std.proofs.Common.{◌≡◌, ℕ, zero, suc, false, List, [], ◌∷◌, ◌++◌, length, Option, Some, None, refl, sym, ap, subst, ◌∙◌, arith}
-use Rattle.std.specs.Prelude.{slice_get}
-use Rattle.std.specs.Global.{Vec}
+use Rattle.std.specs.{Prelude.slice_get, Global.Vec}
 use Rattle.of_layers.specs.declared.field.Field.{Field}
-use Rattle.of_oxm.specs.declared.match_field.MatchField.{MatchField}
-use Rattle.of_oxm.specs.Relations.{matches_map}
+use Rattle.of_oxm.specs.{declared.match_field.MatchField.MatchField, Relations.matches_map}
 use Rattle.of_regions.specs.Searching.{InSome}
-use Rattle.of_symbolic.specs.declared.branching.Branch.{Branch}
-use Rattle.of_symbolic.specs.declared.branching.Rank.{Rank}
-use Rattle.of_symbolic.specs.declared.part.Part.{Part}
-use Rattle.of_symbolic.specs.declared.pulled_entry.PulledEntry.{PulledEntry}
 use Rattle.of_symbolic.specs.Branching.{AllHaveConditions, AreNearEntries, IsAhead, IsHitOrMiss, IsNearEntry, NoEntryAhead, is_agreed}
-use Rattle.of_symbolic.specs.Parts.{InPart}
+use Rattle.of_symbolic.specs.{declared.branching.Branch.Branch, declared.branching.Rank.Rank, declared.part.Part.Part, declared.pulled_entry.PulledEntry.PulledEntry, Parts.InPart}
 use Rattle.of_symbolic.proofs.BranchLemmas.{AreHitBranches}
 
 pub far_away : (part : Part) (p q : PulledEntry) → ((fields : Field → Option ℕ) → InPart part fields → is_agreed p.fields fields ≡ false) → q.priority ≡ p.priority → q.fields ≡ None → IsNearEntry part p q

@@ -1,22 +1,16 @@
 -- The fields of the packet, in terms of those of the frame that came in.
 use Rattle.std.proofs.Common.{◌≡◌, ℕ, true, List, [], ◌∷◌, Option, Some, None, refl, ap, ◌∙◌}
-use Rattle.std.specs.Prelude.{slice_get}
-use Rattle.std.specs.Option.{option_map}
+use Rattle.std.specs.{Prelude.slice_get, Option.option_map}
 use Rattle.of_layers.specs.declared.field.Field.{Field}
 use Rattle.of_layers.specs.declared.field.Field.TheVariants.{InPort, Metadata, VlanVid, VlanPcp}
 use Rattle.of_headers.specs.FieldMap.{value, vid}
 use Rattle.of_rewrite.specs.Views.{Tag, View, fields_seen, outermost}
 use Rattle.of_actions.specs.declared.action.Action.{Action}
-use Rattle.of_symbolic.specs.declared.overlay.Overlay.{Overlay}
-use Rattle.of_symbolic.specs.declared.overlay.PushedTag.{PushedTag}
-use Rattle.of_symbolic.specs.declared.overlay.ReceivedTag.{ReceivedTag}
-use Rattle.of_symbolic.specs.declared.overlay.TagNumber.{TagNumber}
-use Rattle.of_symbolic.specs.declared.overlay.TagNumber.TheVariants.{Value, Received, IfTagged, Unknown}
-use Rattle.of_symbolic.specs.Actions.{view_of_actions}
 use Rattle.of_symbolic.specs.Overlaid.{is_field_known, is_number_known, is_tag_known, overlaid, tag_number, tag_of_packet}
-use Rattle.of_symbolic.specs.Overlays.{IsOverlay, Shows, tags_in}
 use Rattle.of_symbolic.specs.Tags.{AreTagsAfter, IsNumber, is_inner, own_tag, own_tags, tags_from}
-use Rattle.of_symbolic.proofs.Showing.{overlay_shows}
+use Rattle.of_symbolic.specs.{declared.overlay.Overlay.Overlay, declared.overlay.PushedTag.PushedTag, declared.overlay.ReceivedTag.ReceivedTag, declared.overlay.TagNumber.TagNumber}
+use Rattle.of_symbolic.specs.declared.overlay.TagNumber.TheVariants.{Value, Received, IfTagged, Unknown}
+use Rattle.of_symbolic.{specs.Actions.view_of_actions, specs.Overlays.IsOverlay, specs.Overlays.Shows, specs.Overlays.tags_in, proofs.Showing.overlay_shows}
 
 number_is : (k : TagNumber) (o : Option ℕ) (x : ℕ) → is_number_known k ≡ true → IsNumber k o x → x ≡ tag_number k o
 number_is (Value n) o x known h = h

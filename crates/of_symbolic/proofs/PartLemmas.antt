@@ -1,28 +1,16 @@
 -- Parts, with more regions and with fewer packets.
 use Rattle.std.proofs.Common.{◌≡◌, ◌⊎◌, ◌<◌, ◌+◌, ℕ, true, false, List, [], ◌∷◌, ◌++◌, length, get_or, take, Option, Some, sym, ap, subst, ◌∙◌, arith, inl, inr}
-use Rattle.std.specs.Prelude.{slice_get}
-use Rattle.std.specs.List.{Contains}
-use Rattle.std.specs.Global.{Vec}
-use Rattle.std.proofs.lemmas.List.{take_more}
-use Rattle.std.proofs.lemmas.List.Elements.{Contains-append_left, Contains-push, Contains-push_cases}
-use Rattle.std.proofs.lemmas.Option.{slice_get-get_or}
-use Rattle.of_layers.specs.declared.field.Field.{Field}
-use Rattle.of_layers.specs.Reading.{layers_of}
+use Rattle.std.{specs.Prelude.slice_get, specs.List.Contains, specs.Global.Vec, proofs.lemmas.List.take_more}
+use Rattle.std.proofs.{lemmas.List.Elements.Contains-append_left, lemmas.List.Elements.Contains-push, lemmas.List.Elements.Contains-push_cases, lemmas.Option.slice_get-get_or}
+use Rattle.of_layers.specs.{declared.field.Field.Field, Reading.layers_of}
 use Rattle.of_headers.specs.FieldMap.{field_map}
-use Rattle.of_oxm.specs.declared.match_field.MatchField.{MatchField}
-use Rattle.of_oxm.specs.Relations.{matches_map}
+use Rattle.of_oxm.specs.{declared.match_field.MatchField.MatchField, Relations.matches_map}
 use Rattle.of_rewrite.specs.Frames.{IsFrame}
-use Rattle.of_frames.specs.Rules.{tagging_of}
-use Rattle.of_frames.proofs.Shapes.{tags_seen}
-use Rattle.of_regions.specs.declared.meeting.Meeting.TheVariants.{Apart, Whole}
-use Rattle.of_regions.specs.declared.region.Region.{Region}
-use Rattle.of_regions.specs.Conditions.{AreConditions}
-use Rattle.of_regions.specs.Meeting.{Meets}
-use Rattle.of_regions.specs.Narrowing.{AreNarrowed}
-use Rattle.of_regions.specs.Regions.{InRegion, IsSomeTagging}
-use Rattle.of_regions.specs.Searching.{InSome}
-use Rattle.of_symbolic.specs.declared.part.Part.{Part}
+use Rattle.of_frames.{specs.Rules.tagging_of, proofs.Shapes.tags_seen}
+use Rattle.of_regions.specs.{declared.meeting.Meeting.TheVariants.Apart, declared.meeting.Meeting.TheVariants.Whole, declared.region.Region.Region, Conditions.AreConditions, Meeting.Meets}
+use Rattle.of_regions.specs.{Narrowing.AreNarrowed, Regions.InRegion, Regions.IsSomeTagging, Searching.InSome}
 use Rattle.of_symbolic.specs.Parts.{AreLeftRegions, AreListsOfConditions, InPart, IsListed, IsMatchedPart, IsUnmatchedPart, NoneOfMatches}
+use Rattle.of_symbolic.specs.declared.part.Part.{Part}
 
 -- ---- lists
 

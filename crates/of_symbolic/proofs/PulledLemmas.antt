@@ -1,21 +1,12 @@
 -- The entries of a table as conditions on the frame that came in.
 use Rattle.std.proofs.Common.{◌≡◌, ◌<◌, ◌≤◌, ◌+◌, ℕ, zero, suc, Bor, length, get_or, drop, List, [], ◌∷◌, ◌++◌, Option, Some, None, refl, sym, ap, subst, arith, append_assoc, drop-cons, add-one, ◌∙◌}
-use Rattle.std.specs.Prelude.{true, IfSome, map}
-use Rattle.std.proofs.lemmas.List.{drop_all}
-use Rattle.std.specs.List.{Contains}
-use Rattle.std.specs.Global.{Vec}
+use Rattle.std.{specs.Prelude.true, specs.Prelude.IfSome, specs.Prelude.map, specs.List.Contains, specs.Global.Vec, proofs.lemmas.List.drop_all}
 use Rattle.of_oxm.specs.declared.match_field.MatchField.{MatchField}
 use Rattle.of_regions.specs.Conditions.{AreConditions}
 use Rattle.of_actions.specs.declared.action.Action.{Action}
-use Rattle.of_table.specs.declared.entry.Entry.{Entry}
-use Rattle.of_table.specs.Entries.{entry_of, flows_of}
-use Rattle.of_table.specs.Table.{FlowEntry}
-use Rattle.of_symbolic.specs.declared.overlay.Overlay.{Overlay}
-use Rattle.of_symbolic.specs.declared.pulled_entry.PulledEntry.{PulledEntry}
-use Rattle.of_symbolic.specs.declared.pulling.Pulled.{Pulled}
-use Rattle.of_symbolic.specs.Branches.{AsksUnknown}
+use Rattle.of_table.specs.{declared.entry.Entry.Entry, Entries.entry_of, Entries.flows_of, Table.FlowEntry}
 use Rattle.of_symbolic.specs.Branching.{AllHaveConditions, ArePulledEntries, HasConditions, IsPulledEntry, pulled_of}
-use Rattle.of_symbolic.specs.Overlays.{IsOverlay}
+use Rattle.of_symbolic.specs.{declared.overlay.Overlay.Overlay, declared.pulled_entry.PulledEntry.PulledEntry, declared.pulling.Pulled.Pulled, Branches.AsksUnknown, Overlays.IsOverlay}
 use Rattle.of_symbolic.specs.Pulling.{AsksConditions, IsPulled, is_unknown_in}
 
 -- the walk over entries: whatever is pulled of those that are left completes the whole, and those are entries of the whole

@@ -1,10 +1,7 @@
 -- The view of a frame after several actions.
 use Rattle.std.proofs.Common.{ℕ, List, [], ◌∷◌}
-use Rattle.of_rewrite.specs.Frames.{IsFrame}
-use Rattle.of_rewrite.specs.Views.{View, IsView}
-use Rattle.of_rewrite.proofs.Calling.{still_frame}
-use Rattle.of_rewrite.proofs.Viewing.{view_follows}
 use Rattle.of_rewrite.specs.Calls.{PushVlan, PopVlan, Set, SetTtl, DecTtl}
+use Rattle.of_rewrite.{specs.Frames.IsFrame, specs.Views.View, specs.Views.IsView, proofs.Calling.still_frame, proofs.Viewing.view_follows}
 use Rattle.of_actions.specs.declared.action.Action.{Action}
 use Rattle.of_actions.specs.declared.action.Action.TheVariants as actions
 use Rattle.of_symbolic.specs.Actions.{IsRewriting, AreRewriting, call_of, view_by, frame_by, view_of_actions, frame_of_actions}

@@ -1,21 +1,15 @@
 -- What is known of a packet is so after each action.
 use Rattle.std.proofs.Common.{◌≡◌, ℕ, ◌%◌, ◌^◌, Bool, true, false, cond, eqb, List, [], ◌∷◌, drop, Option, Some, None, refl, sym, ap, subst, ◌∙◌}
-use Rattle.std.specs.Prelude.{not, slice_get, unwrap_or, ◌&&◌}
-use Rattle.std.specs.List.{fold}
-use Rattle.std.specs.Option.{option_map}
-use Rattle.of_layers.specs.declared.field.Field.{Field}
-use Rattle.of_layers.specs.declared.field.Field.TheVariants.{VlanVid, VlanPcp}
-use Rattle.of_layers.specs.Fields.{number_of, bit_count}
+use Rattle.std.specs.{Prelude.not, Prelude.slice_get, Prelude.unwrap_or, Prelude.◌&&◌, List.fold, Option.option_map}
+use Rattle.of_layers.specs.{declared.field.Field.Field, declared.field.Field.TheVariants.VlanVid, declared.field.Field.TheVariants.VlanPcp, Fields.number_of, Fields.bit_count}
 use Rattle.of_headers.specs.FieldMap.{value}
 use Rattle.of_rewrite.specs.Views.{Tag, View, outermost, outermost_set, tag_set}
 use Rattle.of_actions.specs.declared.action.Action.{Action}
 use Rattle.of_actions.specs.declared.action.Action.TheVariants as actions
-use Rattle.of_symbolic.specs.declared.overlay.Overlay.{Overlay}
-use Rattle.of_symbolic.specs.declared.overlay.PushedTag.{PushedTag}
-use Rattle.of_symbolic.specs.declared.overlay.ReceivedTag.{ReceivedTag}
-use Rattle.of_symbolic.specs.Actions.{call_of, view_by, view_of_actions}
 use Rattle.of_symbolic.specs.Overlays.{IsOverlay, Shows, tags_in, value_by, value_set, with_value}
 use Rattle.of_symbolic.specs.Tags.{Tags, AreTagsAfter, IsNumber, IsPushed, copied, is_inner, new_tag, no_tags, own_tag, own_tags, pushed_set, received_set, tag_below, tags_by, tags_from, tags_of_actions, tags_popped, tags_set}
+use Rattle.of_symbolic.specs.{declared.overlay.Overlay.Overlay, declared.overlay.PushedTag.PushedTag, declared.overlay.ReceivedTag.ReceivedTag}
+use Rattle.of_symbolic.specs.Actions.{call_of, view_by, view_of_actions}
 
 -- ---- a tag is pushed
 

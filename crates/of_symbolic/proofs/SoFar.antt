@@ -1,31 +1,19 @@
 -- What the fields of a match ask, one after the other.
 use Rattle.std.proofs.Common.{◌≡◌, ℕ, zero, suc, ◌+◌, ◌<◌, ◌≤◌, Bool, true, false, List, [], ◌∷◌, ◌++◌, length, drop, get_or, take, take_all, refl, sym, ap, subst, ◌∙◌, arith}
 use Rattle.std.specs.Prelude.{IfSome, Option, not, slice_get, ◌^◌, ◌&&◌, ◌||◌}
-use Rattle.std.specs.List.{AllByRecursion, list_all, list_any}
-use Rattle.std.proofs.lemmas.List.{take_more}
-use Rattle.of_layers.specs.declared.field.Field.{Field}
-use Rattle.of_layers.specs.declared.field.Field.TheVariants.{VlanVid, VlanPcp}
-use Rattle.of_oxm.specs.declared.match_field.MatchField.{MatchField}
-use Rattle.of_oxm.specs.NormalForm.{IsKept}
-use Rattle.of_oxm.specs.Relations.{agrees, matches_map}
+use Rattle.std.{specs.List.AllByRecursion, specs.List.list_all, specs.List.list_any, proofs.lemmas.List.take_more}
+use Rattle.of_layers.specs.{declared.field.Field.Field, declared.field.Field.TheVariants.VlanVid, declared.field.Field.TheVariants.VlanPcp}
+use Rattle.of_oxm.specs.{declared.match_field.MatchField.MatchField, NormalForm.IsKept, Relations.agrees, Relations.matches_map}
 use Rattle.of_rewrite.specs.Views.{View, fields_seen, outermost}
 use Rattle.of_actions.specs.declared.action.Action.{Action}
+use Rattle.of_symbolic.proofs.Tagged.{and_parts, untagged_false, untagged_unmatched, vid_if_asked, vids_agree}
 use Rattle.of_symbolic.specs.declared.asking.Asked.{Asked}
 use Rattle.of_symbolic.specs.declared.asking.Asked.TheVariants.{Never, Open, Nothing, Asks}
-use Rattle.of_symbolic.specs.declared.overlay.Overlay.{Overlay}
-use Rattle.of_symbolic.specs.Actions.{view_of_actions}
-use Rattle.of_symbolic.specs.Asking.{asked_of_frame, asks_tag, asks_vid}
-use Rattle.of_symbolic.specs.InnerTags.{description_of_view}
-use Rattle.of_symbolic.specs.Overlays.{IsOverlay, HasVids}
-use Rattle.of_symbolic.specs.Tags.{is_inner, tags_from}
+use Rattle.of_symbolic.specs.{declared.overlay.Overlay.Overlay, Actions.view_of_actions, Asking.asked_of_frame, Asking.asks_tag, Asking.asks_vid, InnerTags.description_of_view}
+use Rattle.of_symbolic.{specs.Overlays.IsOverlay, specs.Overlays.HasVids, specs.Tags.is_inner, specs.Tags.tags_from, specs.Pulling.is_unknown_at, specs.Pulling.is_unknown_in, proofs.Holding.Holds}
+use Rattle.of_symbolic.proofs.{InnerLemmas.at_holds, InnerLemmas.at_kept, InnerLemmas.has_own_tag, Keeping.KeptIfAsked, Keeping.kept_vid, Keeping.open_unknown}
+use Rattle.of_symbolic.proofs.{Showing.inner_if_told, Showing.overlay_shows, Vids.all_small, Vids.first_small, Vids.rest_small}
 use Rattle.of_regions.specs.Conditions.{AreConditions, IsCondition}
-use Rattle.of_symbolic.specs.Pulling.{is_unknown_at, is_unknown_in}
-use Rattle.of_symbolic.proofs.Holding.{Holds}
-use Rattle.of_symbolic.proofs.InnerLemmas.{at_holds, at_kept, has_own_tag}
-use Rattle.of_symbolic.proofs.Keeping.{KeptIfAsked, kept_vid, open_unknown}
-use Rattle.of_symbolic.proofs.Showing.{inner_if_told, overlay_shows}
-use Rattle.of_symbolic.proofs.Tagged.{and_parts, untagged_false, untagged_unmatched, vid_if_asked, vids_agree}
-use Rattle.of_symbolic.proofs.Vids.{all_small, first_small, rest_small}
 
 -- ---- one field
 

@@ -1,28 +1,15 @@
 -- A match that asks for a tag of the frame: over a frame without that tag, it asks for a VID that the packet does not have.
 use Rattle.std.proofs.Common.{◌≡◌, ℕ, ◌+◌, ◌%◌, Bool, true, false, eqb, List, [], ◌∷◌, Option, Some, None, refl, sym, ap, ◌∙◌}
 use Rattle.std.specs.Prelude.{bit_and, is_some, not, slice_get, ◌&&◌, ◌||◌}
-use Rattle.std.specs.List.{list_all, list_any}
-use Rattle.std.specs.Option.{option_map}
-use Rattle.std.proofs.lemmas.Bool.{eqb-false, ne_eqb}
-use Rattle.std.proofs.lemmas.Nat.{and_mod}
-use Rattle.of_layers.specs.declared.field.Field.{Field}
-use Rattle.of_layers.specs.declared.field.Field.TheVariants.{VlanVid}
+use Rattle.std.{specs.List.list_all, specs.List.list_any, specs.Option.option_map, proofs.lemmas.Bool.eqb-false, proofs.lemmas.Bool.ne_eqb, proofs.lemmas.Nat.and_mod}
+use Rattle.of_layers.specs.{declared.field.Field.Field, declared.field.Field.TheVariants.VlanVid}
 use Rattle.of_headers.specs.FieldMap.{vid}
-use Rattle.of_oxm.specs.declared.match_field.MatchField.{MatchField}
-use Rattle.of_oxm.specs.Relations.{agrees, bits_looked_at, matches_map}
+use Rattle.of_oxm.specs.{declared.match_field.MatchField.MatchField, Relations.agrees, Relations.bits_looked_at, Relations.matches_map}
 use Rattle.of_rewrite.specs.Views.{Tag, View, fields_seen, outermost}
 use Rattle.of_actions.specs.declared.action.Action.{Action}
-use Rattle.of_symbolic.specs.declared.overlay.Overlay.{Overlay}
-use Rattle.of_symbolic.specs.declared.overlay.PushedTag.{PushedTag}
-use Rattle.of_symbolic.specs.declared.overlay.ReceivedTag.{ReceivedTag}
-use Rattle.of_symbolic.specs.declared.overlay.TagNumber.{TagNumber}
-use Rattle.of_symbolic.specs.declared.overlay.TagNumber.TheVariants.{Received}
-use Rattle.of_symbolic.specs.Actions.{view_of_actions}
-use Rattle.of_symbolic.specs.Asking.{asks_tag, asks_vid, asks_vid_at, is_received}
-use Rattle.of_symbolic.specs.Overlays.{IsOverlay}
-use Rattle.of_symbolic.specs.Tags.{AreTagsAfter, IsNumber, is_inner, tags_from}
-use Rattle.of_symbolic.proofs.InnerLemmas.{has_own_tag}
-use Rattle.of_symbolic.proofs.Showing.{overlay_shows}
+use Rattle.of_symbolic.specs.{declared.overlay.Overlay.Overlay, declared.overlay.PushedTag.PushedTag, declared.overlay.ReceivedTag.ReceivedTag, declared.overlay.TagNumber.TagNumber}
+use Rattle.of_symbolic.specs.{declared.overlay.TagNumber.TheVariants.Received, Actions.view_of_actions, Asking.asks_tag, Asking.asks_vid, Asking.asks_vid_at, Asking.is_received, Overlays.IsOverlay}
+use Rattle.of_symbolic.{specs.Tags.AreTagsAfter, specs.Tags.IsNumber, specs.Tags.is_inner, specs.Tags.tags_from, proofs.InnerLemmas.has_own_tag, proofs.Showing.overlay_shows}
 use Rattle.of_symbolic.proofs.VidBits.{zero_and}
 
 pub and_parts : (a b : Bool) → (a && b) ≡ true → (a ≡ true) × (b ≡ true)

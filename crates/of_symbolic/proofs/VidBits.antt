@@ -1,7 +1,6 @@
 -- The bits of VLAN_VID: the bit 0x1000, and the 12 bits of a VID.
 use Rattle.std.proofs.Common.{◌≡◌, ℕ, ◌+◌, ◌*◌, ◌/◌, ◌%◌, ◌^◌, ◌<◌, inl, inr, true, eqb, Option, Some, None, refl, sym, ap, ◌∙◌, arith}
-use Rattle.std.specs.Prelude.{bit_and, IfSome, unwrap_or, ◌&&◌}
-use Rattle.std.proofs.lemmas.Bool.{cases_eq, eq-eqb, ne_eqb}
+use Rattle.std.{specs.Prelude.bit_and, specs.Prelude.IfSome, specs.Prelude.unwrap_or, specs.Prelude.◌&&◌, proofs.lemmas.Bool.cases_eq, proofs.lemmas.Bool.eq-eqb, proofs.lemmas.Bool.ne_eqb}
 use Rattle.std.proofs.lemmas.Nat.{and_block, and_le_l, and_le_r, and_mod}
 use Rattle.of_headers.specs.FieldMap.{vid}
 

@@ -1,19 +1,13 @@
 -- The VIDs of tags have 12 bits, also after actions.
 use Rattle.std.proofs.Common.{ℕ, ◌^◌, ◌<◌, List, [], ◌∷◌, drop, sym, subst, arith}
-use Rattle.std.specs.Prelude.{IfSome, map, unwrap_or}
-use Rattle.std.specs.List.{AllByRecursion}
-use Rattle.of_layers.specs.declared.field.Field.{Field}
-use Rattle.of_layers.specs.declared.field.Field.TheVariants.{VlanVid, VlanPcp}
-use Rattle.of_layers.specs.Layers.{inner_tag}
-use Rattle.of_layers.specs.Reading.{layers_of}
-use Rattle.of_layers.specs.WellFormed.{FitsItems, AreTags}
-use Rattle.of_layers.proofs.FrameLemmas.{are_layers}
-use Rattle.of_rewrite.specs.Frames.{IsFrame}
+use Rattle.std.specs.{Prelude.IfSome, Prelude.map, Prelude.unwrap_or, List.AllByRecursion}
+use Rattle.of_layers.specs.{declared.field.Field.Field, declared.field.Field.TheVariants.VlanVid, declared.field.Field.TheVariants.VlanPcp, Layers.inner_tag, Reading.layers_of}
+use Rattle.of_layers.{specs.WellFormed.FitsItems, specs.WellFormed.AreTags, proofs.FrameLemmas.are_layers}
 use Rattle.of_rewrite.specs.Views.{Tag, View, IsView, outermost, outermost_set, tag_of_numbers, tag_set}
+use Rattle.of_rewrite.specs.Frames.{IsFrame}
 use Rattle.of_actions.specs.declared.action.Action.{Action}
 use Rattle.of_actions.specs.declared.action.Action.TheVariants as actions
-use Rattle.of_symbolic.specs.Actions.{call_of, view_by, view_of_actions}
-use Rattle.of_symbolic.specs.Overlays.{HasVids}
+use Rattle.of_symbolic.specs.{Actions.call_of, Actions.view_by, Actions.view_of_actions, Overlays.HasVids}
 
 abbrev AreSmall : List Tag → Type 0
 AreSmall ts = AllByRecursion (λ (t : Tag). t.vid < 2 ^ 12) ts

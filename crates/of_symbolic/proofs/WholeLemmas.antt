@@ -1,39 +1,18 @@
 -- The descriptions of all frames.
 use Rattle.std.proofs.Common.{◌≡◌, ◌<◌, ◌+◌, ◌*◌, ◌/◌, ◌%◌, ◌^◌, ℕ, Bool, eqb, true, false, List, [], ◌∷◌, ◌++◌, Option, None, Some, refl, sym, ap, subst, ◌∙◌, arith, inl, inr}
 use Rattle.std.specs.Prelude.{bit_and, map, nat_lt, ◌&&◌, ◌||◌}
-use Rattle.std.specs.List.{Contains}
-use Rattle.std.specs.Option.{option_map}
-use Rattle.std.specs.Global.{Vec}
-use Rattle.std.proofs.lemmas.Bool.{eq-eqb, eqb-true, lt-ltb, ltb-true}
-use Rattle.std.proofs.lemmas.List.Elements.{Contains-append_cases, Contains-append_left, Contains-append_right}
-use Rattle.std.proofs.lemmas.Nat.{and_block, and_mask}
-use Rattle.of_layers.specs.declared.field.Field.{Field}
-use Rattle.of_layers.specs.declared.field.Field.TheVariants.{Metadata, VlanVid}
-use Rattle.of_layers.specs.Fields.{ones_of, row_of}
-use Rattle.of_layers.specs.Layers.{inner_tag}
-use Rattle.of_layers.specs.Reading.{layers_of}
-use Rattle.of_layers.specs.WellFormed.{FitsItems, AreTags}
-use Rattle.of_layers.proofs.FrameLemmas.{are_layers}
+use Rattle.std.{specs.List.Contains, specs.Option.option_map, specs.Global.Vec, proofs.lemmas.Bool.eq-eqb, proofs.lemmas.Bool.eqb-true, proofs.lemmas.Bool.lt-ltb, proofs.lemmas.Bool.ltb-true}
+use Rattle.std.proofs.{lemmas.List.Elements.Contains-append_cases, lemmas.List.Elements.Contains-append_left, lemmas.List.Elements.Contains-append_right, lemmas.Nat.and_block, lemmas.Nat.and_mask}
+use Rattle.of_layers.specs.{declared.field.Field.Field, declared.field.Field.TheVariants.Metadata, declared.field.Field.TheVariants.VlanVid, Fields.ones_of, Fields.row_of, Layers.inner_tag}
+use Rattle.of_layers.{specs.Reading.layers_of, specs.WellFormed.FitsItems, specs.WellFormed.AreTags, proofs.FrameLemmas.are_layers}
 use Rattle.of_headers.specs.FieldMap.{field_map, vid}
-use Rattle.of_oxm.specs.declared.match_field.MatchField.{MatchField}
-use Rattle.of_oxm.specs.Relations.{agrees, matches_map}
-use Rattle.of_rewrite.specs.Frames.{IsFrame}
-use Rattle.of_rewrite.specs.Views.{Tag, outermost, tag_of_numbers, view_of}
-use Rattle.of_rewrite.proofs.Viewing.{seen}
-use Rattle.of_frames.specs.Rules.{shape_of, tagging_of}
-use Rattle.of_frames.proofs.Shapes.{shaped, tags_seen}
-use Rattle.of_regions.specs.declared.region.Region.{Region}
-use Rattle.of_regions.specs.Conditions.{AreConditions}
-use Rattle.of_regions.specs.Narrowing.{AreNarrowed}
-use Rattle.of_regions.specs.Searching.{InSome, IsStart}
-use Rattle.of_symbolic.specs.declared.part.Part.{Part}
-use Rattle.of_symbolic.specs.InnerTags.{description_of, inner_tag_asked, inner_told, number_of_tag}
-use Rattle.of_symbolic.specs.Parts.{IsWholePart, NoneOfMatches, may_tell, received_fields}
-use Rattle.of_symbolic.proofs.Following.{low_bits}
-use Rattle.of_symbolic.proofs.Lookups.{own}
-use Rattle.of_symbolic.proofs.PartLemmas.{none_of, some_tagging}
-use Rattle.of_symbolic.proofs.VidBits.{and_zero, present_bit, zero_and}
-use Rattle.of_symbolic.proofs.Vids.{four_small}
+use Rattle.of_oxm.specs.{declared.match_field.MatchField.MatchField, Relations.agrees, Relations.matches_map}
+use Rattle.of_rewrite.{specs.Frames.IsFrame, specs.Views.Tag, specs.Views.outermost, specs.Views.tag_of_numbers, specs.Views.view_of, proofs.Viewing.seen}
+use Rattle.of_frames.{specs.Rules.shape_of, specs.Rules.tagging_of, proofs.Shapes.shaped, proofs.Shapes.tags_seen}
+use Rattle.of_regions.specs.{declared.region.Region.Region, Conditions.AreConditions, Narrowing.AreNarrowed, Searching.InSome, Searching.IsStart}
+use Rattle.of_symbolic.specs.{declared.part.Part.Part, InnerTags.description_of, InnerTags.inner_tag_asked, InnerTags.inner_told, InnerTags.number_of_tag}
+use Rattle.of_symbolic.{specs.Parts.IsWholePart, specs.Parts.NoneOfMatches, specs.Parts.may_tell, specs.Parts.received_fields, proofs.Following.low_bits, proofs.Lookups.own}
+use Rattle.of_symbolic.proofs.{PartLemmas.none_of, PartLemmas.some_tagging, VidBits.and_zero, VidBits.present_bit, VidBits.zero_and, Vids.four_small}
 
 abbrev pub no_metadata : MatchField
 no_metadata = record { field = Metadata; value = 0; mask = None }

@@ -1,7 +1,6 @@
 -- REWRITING ACTIONS, one after the other: what they make of a frame and of its view (OpenFlow 1.3.5, 5.12).
 use Rattle.std.specs.Prelude.{ℕ, List, [], ◌∷◌, Option, Some, None, IsTrue, ⊤}
-use Rattle.of_layers.specs.Fields.{is_settable}
-use Rattle.of_layers.specs.Reading.{is_tag_type}
+use Rattle.of_layers.specs.{Fields.is_settable, Reading.is_tag_type}
 use Rattle.of_rewrite.specs.Calls.{FrameCall, PushVlan, PopVlan, Set, SetTtl, DecTtl, frame_after}
 use Rattle.of_rewrite.specs.Views.{View, view_after}
 use Rattle.of_actions.specs.declared.action.Action.{Action}

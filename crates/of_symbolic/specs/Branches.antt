@@ -1,21 +1,12 @@
 -- WHAT A LOOKUP DOES WITH ALL PACKETS OF A PART: it divides them by the entry that wins (OpenFlow 1.3.5, 5.3).
 use Rattle.std.specs.Prelude.{◌≡◌, ℕ, Bool, List, Option, Some, slice_get, true, map}
-use Rattle.std.specs.Borrow.{Bor}
-use Rattle.std.specs.List.{Contains}
-use Rattle.of_layers.specs.declared.field.Field.{Field}
-use Rattle.of_layers.specs.Reading.{layers_of}
+use Rattle.std.specs.{Borrow.Bor, List.Contains}
+use Rattle.of_layers.specs.{declared.field.Field.Field, Reading.layers_of}
 use Rattle.of_headers.specs.FieldMap.{field_map}
 use Rattle.of_rewrite.specs.Frames.{IsFrame}
 use Rattle.of_actions.specs.declared.action.Action.{Action}
-use Rattle.of_table.specs.declared.entry.Entry.{Entry}
-use Rattle.of_table.specs.Entries.{flows_of}
-use Rattle.of_table.specs.Table.{FlowEntry, winner_place}
-use Rattle.of_symbolic.specs.declared.branching.Branch.{Branch}
-use Rattle.of_symbolic.specs.declared.overlay.Overlay.{Overlay}
-use Rattle.of_symbolic.specs.declared.part.Part.{Part}
-use Rattle.of_symbolic.specs.Actions.{frame_of_actions}
-use Rattle.of_symbolic.specs.InnerTags.{description_of}
-use Rattle.of_symbolic.specs.Parts.{InPart}
+use Rattle.of_table.specs.{declared.entry.Entry.Entry, Entries.flows_of, Table.FlowEntry, Table.winner_place}
+use Rattle.of_symbolic.specs.{declared.branching.Branch.Branch, declared.overlay.Overlay.Overlay, declared.part.Part.Part, Actions.frame_of_actions, InnerTags.description_of, Parts.InPart}
 use Rattle.of_symbolic.specs.Pulling.{is_unknown_in}
 
 -- the fields of the packet that actions make of a frame that came in by a port, with this metadata

@@ -1,25 +1,14 @@
 -- THE ENTRIES OF A TABLE as conditions on the frame that came in, and which of them wins (OpenFlow 1.3.5, 5.3).
 use Rattle.std.specs.Prelude.{◌≡◌, ℕ, ◌<◌, ◌⊎◌, ◌++◌, Bool, true, false, List, [], ◌∷◌, length, Option, Some, None, IfSome, slice_get, ⊤}
-use Rattle.std.specs.List.{Contains}
-use Rattle.std.specs.Option.{option_map}
-use Rattle.std.specs.Global.{Vec}
+use Rattle.std.specs.{List.Contains, Option.option_map, Global.Vec}
 use Rattle.of_layers.specs.declared.field.Field.{Field}
-use Rattle.of_oxm.specs.declared.match_field.MatchField.{MatchField}
-use Rattle.of_oxm.specs.Relations.{matches_map}
-use Rattle.of_regions.specs.Conditions.{AreConditions}
-use Rattle.of_regions.specs.Regions.{IsSomeTagging}
+use Rattle.of_oxm.specs.{declared.match_field.MatchField.MatchField, Relations.matches_map}
+use Rattle.of_regions.specs.{Conditions.AreConditions, Regions.IsSomeTagging}
 use Rattle.of_actions.specs.declared.action.Action.{Action}
 use Rattle.of_table.specs.Table.{FlowEntry}
-use Rattle.of_symbolic.specs.declared.branching.Branch.{Branch}
-use Rattle.of_symbolic.specs.declared.branching.Rank.{Rank}
-use Rattle.of_symbolic.specs.declared.overlay.Overlay.{Overlay}
-use Rattle.of_symbolic.specs.declared.part.Part.{Part}
-use Rattle.of_symbolic.specs.declared.pulled_entry.PulledEntry.{PulledEntry}
-use Rattle.of_symbolic.specs.declared.pulling.Pulled.{Pulled}
-use Rattle.of_symbolic.specs.declared.pulling.Pulled.TheVariants.{Never, When}
-use Rattle.of_symbolic.specs.Overlays.{IsOverlay}
-use Rattle.of_symbolic.specs.Parts.{AreListsOfConditions, InPart}
-use Rattle.of_symbolic.specs.Pulling.{IsPulled}
+use Rattle.of_symbolic.specs.{declared.branching.Branch.Branch, declared.branching.Rank.Rank, declared.overlay.Overlay.Overlay, declared.part.Part.Part}
+use Rattle.of_symbolic.specs.{declared.pulled_entry.PulledEntry.PulledEntry, declared.pulling.Pulled.Pulled, declared.pulling.Pulled.TheVariants.Never, declared.pulling.Pulled.TheVariants.When}
+use Rattle.of_symbolic.specs.{Overlays.IsOverlay, Parts.AreListsOfConditions, Parts.InPart, Pulling.IsPulled}
 
 -- ---- what entries ask
 

@@ -1,8 +1,6 @@
 -- THE INNER TAG of a frame that came in: the VLAN tag below the outermost one (IEEE 802.1Q, 9.5). No match field is about it. A frame comes in without metadata (OpenFlow 1.3.5, 5.1); so where inner tags are told, METADATA of its description tells them.
 use Rattle.std.specs.Prelude.{ℕ, ◌+◌, ◌*◌, Bool, true, false, List, [], ◌∷◌, drop, Option, Some, None}
-use Rattle.of_layers.specs.declared.field.Field.{Field}
-use Rattle.of_layers.specs.declared.field.Field.TheVariants.{Metadata, VlanVid}
-use Rattle.of_layers.specs.Reading.{layers_of}
+use Rattle.of_layers.specs.{declared.field.Field.Field, declared.field.Field.TheVariants.Metadata, declared.field.Field.TheVariants.VlanVid, Reading.layers_of}
 use Rattle.of_headers.specs.FieldMap.{field_map}
 use Rattle.of_oxm.specs.declared.match_field.MatchField.{MatchField}
 use Rattle.of_rewrite.specs.Views.{Tag, View, fields_seen, outermost, view_of}

@@ -5,13 +5,9 @@ use Rattle.of_layers.specs.declared.field.Field.{Field}
 use Rattle.of_layers.specs.declared.field.Field.TheVariants.{InPort, Metadata, VlanVid, VlanPcp}
 use Rattle.of_headers.specs.FieldMap.{value, vid}
 use Rattle.of_rewrite.specs.Views.{Tag, outermost}
-use Rattle.of_symbolic.specs.declared.overlay.Overlay.{Overlay}
-use Rattle.of_symbolic.specs.declared.overlay.PushedTag.{PushedTag}
-use Rattle.of_symbolic.specs.declared.overlay.ReceivedTag.{ReceivedTag}
-use Rattle.of_symbolic.specs.declared.overlay.TagNumber.{TagNumber}
+use Rattle.of_symbolic.specs.{declared.overlay.Overlay.Overlay, declared.overlay.PushedTag.PushedTag, declared.overlay.ReceivedTag.ReceivedTag, declared.overlay.TagNumber.TagNumber}
 use Rattle.of_symbolic.specs.declared.overlay.TagNumber.TheVariants.{Value, Received, IfTagged, Unknown}
-use Rattle.of_symbolic.specs.Overlays.{with_value}
-use Rattle.of_symbolic.specs.Tags.{is_inner, own_tag, tags_from}
+use Rattle.of_symbolic.specs.{Overlays.with_value, Tags.is_inner, Tags.own_tag, Tags.tags_from}
 
 -- ---- what is known
 

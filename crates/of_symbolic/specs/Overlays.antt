@@ -1,15 +1,13 @@
 -- WHAT IS KNOWN OF A PACKET that actions rewrote, in terms of the frame that came in (OpenFlow 1.3.5, 5.12).
 use Rattle.std.specs.Prelude.{◌≡◌, ℕ, ◌%◌, ◌^◌, ◌<◌, ◌==◌, if◌then◌else◌, List, Option, Some, None}
-use Rattle.std.specs.List.{AllByRecursion, fold}
-use Rattle.std.specs.Option.{option_map}
-use Rattle.of_layers.specs.declared.field.Field.{Field}
-use Rattle.of_layers.specs.Fields.{number_of, bit_count}
+use Rattle.std.specs.{List.AllByRecursion, List.fold, Option.option_map}
+use Rattle.of_layers.specs.{declared.field.Field.Field, Fields.number_of, Fields.bit_count}
 use Rattle.of_headers.specs.FieldMap.{value}
 use Rattle.of_rewrite.specs.Views.{Tag, View}
 use Rattle.of_actions.specs.declared.action.Action.{Action}
 use Rattle.of_actions.specs.declared.action.Action.TheVariants as actions
-use Rattle.of_symbolic.specs.declared.overlay.Overlay.{Overlay}
 use Rattle.of_symbolic.specs.Tags.{Tags, AreTagsAfter, is_inner, tags_from, tags_of_actions}
+use Rattle.of_symbolic.specs.declared.overlay.Overlay.{Overlay}
 
 -- the value that SET_FIELD sets a field to: as many bits as the field has
 abbrev pub value_by : Action → Field → Option ℕ → Option ℕ

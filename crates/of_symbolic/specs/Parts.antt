@@ -1,24 +1,14 @@
 -- A PART OF ALL PACKETS: packets of some regions that none of some lists of conditions matches (OpenFlow 1.3.5, 5.3).
 use Rattle.std.specs.Prelude.{◌≡◌, ℕ, ◌<◌, ◌/◌, ◌%◌, ◌^◌, ◌==◌, ◌&&◌, ◌||◌, nat_lt, Bool, List, [], ◌∷◌, Option, map, true, false}
-use Rattle.std.specs.List.{Contains}
-use Rattle.std.specs.Global.{Vec}
-use Rattle.of_layers.specs.declared.field.Field.{Field}
-use Rattle.of_layers.specs.Reading.{layers_of}
+use Rattle.std.specs.{List.Contains, Global.Vec}
+use Rattle.of_layers.specs.{declared.field.Field.Field, Reading.layers_of}
 use Rattle.of_headers.specs.FieldMap.{field_map}
-use Rattle.of_oxm.specs.declared.match_field.MatchField.{MatchField}
-use Rattle.of_oxm.specs.Relations.{matches_map}
+use Rattle.of_oxm.specs.{declared.match_field.MatchField.MatchField, Relations.matches_map}
 use Rattle.of_rewrite.specs.Frames.{IsFrame}
-use Rattle.of_regions.specs.declared.region.Region.{Region}
-use Rattle.of_regions.specs.declared.rival.Rival.{Rival}
-use Rattle.of_regions.specs.declared.searching.Found.{Found}
+use Rattle.of_regions.specs.{declared.region.Region.Region, declared.rival.Rival.Rival, declared.searching.Found.Found, declared.witness.Packet.Packet, Conditions.AreConditions}
+use Rattle.of_regions.specs.{Regions.InRegion, Regions.IsSomeTagging, Searching.InSome, Searching.IsUndecided, Witness.HasNoIngress, Witness.IsReceived, Witness.IsShortFrame, Witness.fields_in}
 use Rattle.of_regions.specs.declared.searching.Found.TheVariants as found
-use Rattle.of_regions.specs.declared.witness.Packet.{Packet}
-use Rattle.of_regions.specs.Conditions.{AreConditions}
-use Rattle.of_regions.specs.Regions.{InRegion, IsSomeTagging}
-use Rattle.of_regions.specs.Searching.{InSome, IsUndecided}
-use Rattle.of_regions.specs.Witness.{HasNoIngress, IsReceived, IsShortFrame, fields_in}
-use Rattle.of_symbolic.specs.declared.part.Part.{Part}
-use Rattle.of_symbolic.specs.InnerTags.{description_of}
+use Rattle.of_symbolic.specs.{declared.part.Part.Part, InnerTags.description_of}
 
 abbrev pub AreListsOfConditions : List (Vec MatchField) → Type 0
 AreListsOfConditions lacks = (m : Vec MatchField) → Contains lacks m → AreConditions m.items

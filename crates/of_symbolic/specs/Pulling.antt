@@ -1,26 +1,16 @@
 -- WHAT A MATCH ON A PACKET that actions rewrote ASKS OF THE FRAME THAT CAME IN (OpenFlow 1.3.5, 5.3 and 7.2.3.7).
 use Rattle.std.specs.Prelude.{◌≡◌, ℕ, ◌%◌, ◌==◌, Bool, true, false, not, ◌&&◌, ◌||◌, List, Option, Some, None, slice_get, ⊤}
 use Rattle.std.specs.List.{list_any}
-use Rattle.of_layers.specs.declared.field.Field.{Field}
-use Rattle.of_layers.specs.declared.field.Field.TheVariants.{VlanVid, VlanPcp}
-use Rattle.of_layers.specs.Reading.{layers_of}
+use Rattle.of_layers.specs.{declared.field.Field.Field, declared.field.Field.TheVariants.VlanVid, declared.field.Field.TheVariants.VlanPcp, Reading.layers_of}
 use Rattle.of_headers.specs.FieldMap.{field_map}
-use Rattle.of_oxm.specs.declared.match_field.MatchField.{MatchField}
-use Rattle.of_oxm.specs.Relations.{bits_looked_at, matches_map}
-use Rattle.of_rewrite.specs.Frames.{IsFrame}
-use Rattle.of_rewrite.specs.Views.{View, fields_seen}
+use Rattle.of_oxm.specs.{declared.match_field.MatchField.MatchField, Relations.bits_looked_at, Relations.matches_map}
+use Rattle.of_rewrite.specs.{Frames.IsFrame, Views.View, Views.fields_seen}
 use Rattle.of_regions.specs.Conditions.{AreConditions}
 use Rattle.of_actions.specs.declared.action.Action.{Action}
-use Rattle.of_symbolic.specs.declared.overlay.Overlay.{Overlay}
-use Rattle.of_symbolic.specs.declared.overlay.PushedTag.{PushedTag}
-use Rattle.of_symbolic.specs.declared.overlay.ReceivedTag.{ReceivedTag}
-use Rattle.of_symbolic.specs.declared.pulling.Pulled.{Pulled}
+use Rattle.of_symbolic.specs.{declared.overlay.Overlay.Overlay, declared.overlay.PushedTag.PushedTag, declared.overlay.ReceivedTag.ReceivedTag, declared.pulling.Pulled.Pulled}
 use Rattle.of_symbolic.specs.declared.pulling.Pulled.TheVariants.{Never, Unknown, When}
-use Rattle.of_symbolic.specs.Actions.{frame_of_actions, view_of_actions}
-use Rattle.of_symbolic.specs.Asking.{asks_tag, is_received}
-use Rattle.of_symbolic.specs.InnerTags.{description_of, description_of_view}
-use Rattle.of_symbolic.specs.Overlaid.{is_number_known}
-use Rattle.of_symbolic.specs.Overlays.{HasVids}
+use Rattle.of_symbolic.specs.{Actions.frame_of_actions, Actions.view_of_actions, Asking.asks_tag, Asking.is_received, InnerTags.description_of, InnerTags.description_of_view}
+use Rattle.of_symbolic.specs.{Overlaid.is_number_known, Overlays.HasVids}
 
 -- ---- what is pulled
 

@@ -1,15 +1,11 @@
 -- WHAT IS KNOWN OF THE VLAN TAGS of a packet after actions, in terms of the tags of the frame that came in (OpenFlow 1.3.5, 5.12).
 use Rattle.std.specs.Prelude.{◌≡◌, ℕ, ◌%◌, ◌^◌, Bool, true, false, not, ◌&&◌, if◌then◌else◌, drop, List, [], ◌∷◌, ◌++◌, Option, Some, None, slice_get, unwrap_or, ⊤}
-use Rattle.std.specs.List.{fold}
-use Rattle.std.specs.Option.{option_map, option_map_or}
-use Rattle.of_layers.specs.declared.field.Field.{Field}
-use Rattle.of_layers.specs.declared.field.Field.TheVariants.{VlanVid, VlanPcp}
+use Rattle.std.specs.{List.fold, Option.option_map, Option.option_map_or}
+use Rattle.of_layers.specs.{declared.field.Field.Field, declared.field.Field.TheVariants.VlanVid, declared.field.Field.TheVariants.VlanPcp}
 use Rattle.of_rewrite.specs.Views.{Tag, outermost}
 use Rattle.of_actions.specs.declared.action.Action.{Action}
 use Rattle.of_actions.specs.declared.action.Action.TheVariants as actions
-use Rattle.of_symbolic.specs.declared.overlay.PushedTag.{PushedTag}
-use Rattle.of_symbolic.specs.declared.overlay.ReceivedTag.{ReceivedTag}
-use Rattle.of_symbolic.specs.declared.overlay.TagNumber.{TagNumber}
+use Rattle.of_symbolic.specs.{declared.overlay.PushedTag.PushedTag, declared.overlay.ReceivedTag.ReceivedTag, declared.overlay.TagNumber.TagNumber}
 use Rattle.of_symbolic.specs.declared.overlay.TagNumber.TheVariants.{Value, Received, IfTagged, Unknown}
 
 -- The tags that were pushed, the outermost first; and the tag of the frame that came in that is below them: its outermost one, or its inner one if POP_VLAN popped that. None if nothing is known of it.

@@ -1,11 +1,9 @@
 //! What one field of a match asks of the frame that came in.
-ghost use Rattle.std.specs.Prelude.{◌≡◌, Some, slice_get};
-ghost use Rattle.std.specs.List.{list_any};
+ghost use Rattle.std.specs.{Prelude.◌≡◌, Prelude.Some, Prelude.slice_get, List.list_any};
 ghost use Rattle.of_layers.specs.declared.field.Field.TheVariants.{VlanVid};
 ghost use Rattle.of_oxm.specs.Relations.{agrees, bits_looked_at};
-ghost use Rattle.of_symbolic.specs.declared.asking.Asked.TheVariants.{Asks};
 ghost use Rattle.of_symbolic.specs.Asking.{asked_of_frame, asked_of_tag, asks_tag as asks_for_tag, asks_vid as asks_for_vid, by_tag as by_tag_so, field_asked as field_asks, inner_field as inner_field_of, own_pcp as own_pcp_asks, own_vid as own_vid_asks, pcp_asked as pcp_asks, pushed_pcp as pushed_pcp_asks, pushed_vid as pushed_vid_asks, tagged_vid as tagged_vid_asks, vid_asked as vid_asks};
-ghost use Rattle.of_symbolic.specs.Tags.{is_inner as is_inner_tag};
+ghost use Rattle.of_symbolic.specs.{declared.asking.Asked.TheVariants.Asks, Tags.is_inner as is_inner_tag};
 
 use crate::overlay::{Overlay, PushedTag, ReceivedTag, TagNumber, first_tag};
 use of_headers::Field;

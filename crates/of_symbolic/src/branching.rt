@@ -4,11 +4,8 @@ ghost use Rattle.std.specs.List.{Contains};
 ghost use Rattle.of_layers.specs.declared.field.Field.{Field as TheField};
 ghost use Rattle.of_actions.specs.declared.action.Action.{Action};
 ghost use Rattle.of_regions.specs.Conditions.{AreConditions};
-ghost use Rattle.of_symbolic.specs.declared.branching.Branch.{Branch as TheBranch};
-ghost use Rattle.of_symbolic.specs.Actions.{AreRewriting};
-ghost use Rattle.of_symbolic.specs.Branches.{AreBranches, AsksUnknown, flows_listed};
 ghost use Rattle.of_symbolic.specs.Branching.{AddsBranch, AddsHit, AllHaveConditions, AreNearEntries, HasConditions, IsAhead, IsNearEntry, IsPartBehind, IsPartBehindAll, is_agreed, ranked_place};
-ghost use Rattle.of_symbolic.specs.Overlays.{IsOverlay};
+ghost use Rattle.of_symbolic.specs.{declared.branching.Branch.Branch as TheBranch, Actions.AreRewriting, Branches.AreBranches, Branches.AsksUnknown, Branches.flows_listed, Overlays.IsOverlay};
 ghost use Rattle.of_symbolic.specs.Parts.{AreListsOfConditions, InPart};
 
 use crate::overlay::Overlay;

@@ -3,16 +3,10 @@ ghost use Rattle.std.specs.Prelude.{◌≡◌, ◌∷◌, ◌++◌, ℕ, Bool, L
 ghost use Rattle.of_layers.specs.declared.field.Field.{Field};
 ghost use Rattle.of_headers.specs.FieldMap.{value};
 ghost use Rattle.of_oxm.specs.declared.match_field.MatchField.{MatchField};
-ghost use Rattle.of_actions.specs.declared.action.Action.{Action};
-ghost use Rattle.of_actions.specs.declared.action.Action.TheVariants.{PopVlan, PushVlan};
-ghost use Rattle.of_rewrite.specs.Frames.{IsFrame};
-ghost use Rattle.of_rewrite.specs.Views.{IsView, View, fields_seen};
-ghost use Rattle.of_symbolic.specs.declared.overlay.Overlay.{Overlay};
-ghost use Rattle.of_symbolic.specs.Actions.{AreRewriting, frame_of_actions, view_of_actions};
-ghost use Rattle.of_symbolic.specs.declared.pulling.Pulled.{Pulled};
-ghost use Rattle.of_symbolic.specs.Overlays.{HasVids, IsOverlay, Shows, tags_in};
-ghost use Rattle.of_symbolic.specs.Overlaid.{is_field_known, overlaid};
-ghost use Rattle.of_symbolic.specs.Pulling.{IsPulled, IsTrueOfFrames};
+ghost use Rattle.of_actions.specs.{declared.action.Action.Action, declared.action.Action.TheVariants.PopVlan, declared.action.Action.TheVariants.PushVlan};
+ghost use Rattle.of_rewrite.specs.{Frames.IsFrame, Views.IsView, Views.View, Views.fields_seen};
+ghost use Rattle.of_symbolic.specs.{declared.overlay.Overlay.Overlay, Actions.AreRewriting, Actions.frame_of_actions, Actions.view_of_actions, declared.pulling.Pulled.Pulled};
+ghost use Rattle.of_symbolic.specs.{Overlays.HasVids, Overlays.IsOverlay, Overlays.Shows, Overlays.tags_in, Overlaid.is_field_known, Overlaid.overlaid, Pulling.IsPulled, Pulling.IsTrueOfFrames};
 ghost use Rattle.of_symbolic.specs.Tags.{PopsOwn};
 
 /// After rewriting actions a frame has the view that they make of its view before (OpenFlow 1.3.5, 5.12).

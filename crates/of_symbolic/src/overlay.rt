@@ -2,10 +2,9 @@
 ghost use Rattle.std.specs.Prelude.{◌≡◌, ◌∷◌, ◌++◌, List, [], OnErr, OnOk, slice_get};
 ghost use Rattle.of_layers.specs.declared.field.Field.{Field as TheField};
 ghost use Rattle.of_headers.specs.FieldMap.{value as value_in};
-ghost use Rattle.of_actions.specs.declared.action.Action.{Action as TheAction};
-ghost use Rattle.of_actions.specs.declared.action.Action.TheVariants.{SetField};
-ghost use Rattle.of_symbolic.specs.Overlays.{IsOverlay, tags_in, value_by};
+ghost use Rattle.of_actions.specs.{declared.action.Action.Action as TheAction, declared.action.Action.TheVariants.SetField};
 ghost use Rattle.of_symbolic.specs.Tags.{copied as as_copied, new_tag as tag_above, pushed_set, received_set, tag_below, tags_popped, tags_set};
+ghost use Rattle.of_symbolic.specs.Overlays.{IsOverlay, tags_in, value_by};
 
 use of_actions::Action;
 use of_headers::{Field, FieldKey};

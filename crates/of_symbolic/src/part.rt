@@ -2,12 +2,9 @@
 ghost use Rattle.std.specs.Prelude.{◌≡◌, ◌↔◌, ℕ, Option, IfOk, IsTrue, true, false};
 ghost use Rattle.of_layers.specs.declared.field.Field.{Field as TheField};
 ghost use Rattle.of_oxm.specs.Relations.{matches_map};
-ghost use Rattle.of_regions.specs.declared.meeting.Meeting.TheVariants.{Apart, Whole};
-ghost use Rattle.of_regions.specs.Conditions.{AreConditions};
-ghost use Rattle.of_regions.specs.Meeting.{Meets};
-ghost use Rattle.of_regions.specs.Searching.{InSome};
-ghost use Rattle.of_symbolic.specs.InnerTags.{inner_tag_asked};
+ghost use Rattle.of_regions.specs.{declared.meeting.Meeting.TheVariants.Apart, declared.meeting.Meeting.TheVariants.Whole, Conditions.AreConditions, Meeting.Meets, Searching.InSome};
 ghost use Rattle.of_symbolic.specs.Parts.{AreLeftRegions, AreListsOfConditions, FindsInPart, HaveConditions, IsListed, IsMatchedPart, IsUnmatchedPart, IsWholePart};
+ghost use Rattle.of_symbolic.specs.InnerTags.{inner_tag_asked};
 
 use of_headers::Field;
 use of_oxm::{Match, MatchField, same_fields};

@@ -1,9 +1,7 @@
 //! The entries of a flow table as conditions on the frame that came in.
 ghost use Rattle.std.specs.Prelude.{◌≡◌, true, IfNone, IfOk, IfSome};
 ghost use Rattle.of_table.specs.Entries.{entry_of};
-ghost use Rattle.of_symbolic.specs.Branches.{AsksUnknown, flows_listed};
-ghost use Rattle.of_symbolic.specs.Branching.{ArePulledEntries, IsPulledEntry};
-ghost use Rattle.of_symbolic.specs.Pulling.{is_unknown_in};
+ghost use Rattle.of_symbolic.specs.{Branches.AsksUnknown, Branches.flows_listed, Branching.ArePulledEntries, Branching.IsPulledEntry, Pulling.is_unknown_in};
 
 use crate::overlay::Overlay;
 use crate::pulling::{Pulled, pull};

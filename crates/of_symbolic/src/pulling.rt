@@ -1,9 +1,7 @@
 //! What a match on a packet that actions rewrote asks of the frame that came in.
 ghost use Rattle.std.specs.Prelude.{◌≡◌, true, IfOk, List};
 ghost use Rattle.of_actions.specs.declared.action.Action.{Action};
-ghost use Rattle.of_symbolic.specs.declared.pulling.Pulled.TheVariants.{Unknown};
-ghost use Rattle.of_symbolic.specs.Overlays.{IsOverlay};
-ghost use Rattle.of_symbolic.specs.Pulling.{AsksConditions, IsPulled, is_unknown_in};
+ghost use Rattle.of_symbolic.specs.{declared.pulling.Pulled.TheVariants.Unknown, Overlays.IsOverlay, Pulling.AsksConditions, Pulling.IsPulled, Pulling.is_unknown_in};
 
 use crate::asking::{Asked, ask, asks_tag};
 use crate::overlay::{Overlay, first_tag};

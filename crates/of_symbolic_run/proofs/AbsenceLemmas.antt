@@ -1,24 +1,14 @@
 -- Ports that are the same, and numbers that are not there.
 use Rattle.std.proofs.Common.{◌≡◌, ℕ, zero, suc, ◌+◌, ◌-◌, ◌*◌, ◌/◌, ◌%◌, ◌∷◌, ◌++◌, ◌^◌, ◌<◌, ◌≤◌, Bool, true, false, cond, List, [], Option, Some, None, Result, Ok, Err, refl, sym, ap, subst, ◌∙◌, inl, inr, arith}
 use Rattle.std.specs.Prelude.{bit_and, find, is_some, not, IfSome, ◌&&◌, ◌||◌, ◌⊎◌}
-use Rattle.std.specs.List.{Contains, list_any}
-use Rattle.std.specs.Option.{option_map}
-use Rattle.std.specs.Result.{OnOk}
-use Rattle.std.specs.Global.{Vec}
-use Rattle.std.proofs.lemmas.Bool.{eq-eqb, eqb-true}
-use Rattle.std.proofs.lemmas.List.Elements.{Contains-append_left, Contains-push, Contains-push_cases}
-use Rattle.std.proofs.lemmas.List.Folds.{list_any_at}
-use Rattle.std.proofs.lemmas.Nat.{div-mul-add, pow_pos}
-use Rattle.std.proofs.lemmas.Nat.Bits.{and_high_mask, bit_at_and, same_from_bits}
+use Rattle.std.{specs.List.Contains, specs.List.list_any, specs.Option.option_map, specs.Result.OnOk, specs.Global.Vec, proofs.lemmas.Bool.eq-eqb, proofs.lemmas.Bool.eqb-true}
+use Rattle.std.proofs.{lemmas.List.Elements.Contains-append_left, lemmas.List.Elements.Contains-push, lemmas.List.Elements.Contains-push_cases, lemmas.List.Folds.list_any_at}
+use Rattle.std.proofs.{lemmas.Nat.div-mul-add, lemmas.Nat.pow_pos, lemmas.Nat.Bits.and_high_mask, lemmas.Nat.Bits.bit_at_and, lemmas.Nat.Bits.same_from_bits}
 use Rattle.std.proofs.Math.Nat.{div-div-eq-div-mul, mul-suc, pow-suc}
-use Rattle.of_layers.specs.Fields.{ones_of, row_of}
-use Rattle.of_layers.specs.declared.field.Field.TheVariants.{InPort}
-use Rattle.of_oxm.proofs.Normal.{under_ones}
-use Rattle.of_oxm.specs.declared.match_field.MatchField.{MatchField}
-use Rattle.of_oxm.specs.Relations.{agrees, matches_map}
+use Rattle.of_layers.specs.{Fields.ones_of, Fields.row_of, declared.field.Field.TheVariants.InPort}
+use Rattle.of_oxm.{specs.declared.match_field.MatchField.MatchField, specs.Relations.agrees, specs.Relations.matches_map, proofs.Normal.under_ones}
 use Rattle.of_regions.specs.Conditions.{AreConditions}
-use Rattle.of_ports.specs.declared.port.Port.{Port}
-use Rattle.of_ports.specs.Ports.{may_receive, number_of_port}
+use Rattle.of_ports.specs.{declared.port.Port.Port, Ports.may_receive, Ports.number_of_port}
 use Rattle.of_symbolic_run.specs.PortNumbers.{AreAbsences, HasReceiver, IsAbsence, IsConditionOf, IsNamedNumber, IsReceiverOrNamed, agrees_under, receiver_under}
 
 pub on_ok_then : {X E : Type 0} (r : Result X E) (P Q R : Type 0) → (P → Q) → OnOk r (Q → R) → OnOk r (P → R)

@@ -1,46 +1,24 @@
 -- The cases of a lookup.
 use Rattle.std.proofs.Common.{Bool, ◌≡◌, ◌<◌, ◌≤◌, ◌+◌, ℕ, zero, suc, true, false, Bor, List, [], ◌∷◌, ◌++◌, length, get_or, set, drop, Option, Some, None, refl, sym, ap, subst, ◌∙◌, arith, add-one, append_assoc, drop-cons}
-use Rattle.std.specs.Prelude.{IfSome, map, slice_get}
-use Rattle.std.specs.Global.{Vec}
-use Rattle.std.specs.List.{Contains}
-use Rattle.std.specs.Option.{option_map}
-use Rattle.std.proofs.lemmas.List.{append-nil, map-append}
-use Rattle.std.proofs.lemmas.Bool.Decides.{nat_tests}
-use Rattle.std.proofs.lemmas.Option.{slice_get-get_or}
+use Rattle.std.specs.{Prelude.IfSome, Prelude.map, Prelude.slice_get, Global.Vec, List.Contains, Option.option_map}
+use Rattle.std.proofs.{lemmas.List.append-nil, lemmas.List.map-append, lemmas.Bool.Decides.nat_tests, lemmas.Option.slice_get-get_or}
 use Rattle.of_layers.specs.declared.field.Field.{Field}
-use Rattle.of_actions.specs.declared.action.Action.{Action}
-use Rattle.of_actions.specs.declared.instruction.Instruction.{Instruction}
 use Rattle.of_actions.specs.declared.instruction.Instruction.TheVariants.{Apply, Clear, Goto, Metadata, Write}
-use Rattle.of_table.specs.declared.entry.Entry.{Entry}
-use Rattle.of_table.specs.declared.flow.Flow.{Flow}
-use Rattle.of_table.specs.Table.{FlowEntry, flow_at, winner_place}
-use Rattle.of_machine.specs.declared.data.Packet.{Packet}
-use Rattle.of_machine.specs.declared.data.Item.{Item}
-use Rattle.of_machine.specs.declared.data.Step.{Step}
-use Rattle.of_machine.specs.declared.data.Step.TheVariants.{Entry as AtEntry, Miss}
-use Rattle.of_machine.specs.TheWorld.{TheWorld}
+use Rattle.of_actions.specs.{declared.action.Action.Action, declared.instruction.Instruction.Instruction}
+use Rattle.of_table.specs.{declared.entry.Entry.Entry, declared.flow.Flow.Flow, Table.FlowEntry, Table.flow_at, Table.winner_place}
 use Rattle.of_machine.specs.Rows.{Row, Task, at_entry, entry_row, lookup_row, task, works}
+use Rattle.of_machine.specs.{declared.data.Packet.Packet, declared.data.Item.Item, declared.data.Step.Step, declared.data.Step.TheVariants.Entry as AtEntry, declared.data.Step.TheVariants.Miss}
+use Rattle.of_machine.specs.TheWorld.{TheWorld}
 use Rattle.of_machine.specs.Rows as rows
-use Rattle.of_symbolic.specs.declared.branching.Branch.{Branch}
-use Rattle.of_symbolic.specs.declared.overlay.Overlay.{Overlay}
-use Rattle.of_symbolic.specs.Overlays.{IsOverlay}
 use Rattle.of_symbolic.specs.Branches.{AreBranches, AsksUnknown, HaveDistinctEntries, flows_listed, rewritten_fields}
-use Rattle.of_symbolic.specs.InnerTags.{description_of}
-use Rattle.of_symbolic.specs.Parts.{InPart}
+use Rattle.of_symbolic.specs.{declared.branching.Branch.Branch, declared.overlay.Overlay.Overlay, Overlays.IsOverlay, InnerTags.description_of, Parts.InPart}
 use Rattle.of_symbolic_run.specs.declared.advance.Advance.TheVariants as advances
-use Rattle.of_symbolic_run.specs.declared.dividing.Case.{Case}
-use Rattle.of_symbolic_run.specs.declared.frame_set.FrameSet.{FrameSet}
-use Rattle.of_symbolic_run.specs.declared.state.Emission.{Emission}
-use Rattle.of_symbolic_run.specs.declared.state.SymbolicPacket.{SymbolicPacket}
-use Rattle.of_symbolic_run.specs.declared.state.SymbolicState.{SymbolicState}
-use Rattle.of_symbolic_run.specs.declared.state.SymbolicTask.{SymbolicTask}
-use Rattle.of_symbolic_run.specs.declared.state.Work.{Work}
-use Rattle.of_symbolic_run.specs.declared.state.Work.TheVariants.{Do, Lookup}
 use Rattle.of_symbolic_run.specs.Cases.{AreCases, AreCasesOf, AsksUnknownOf, IsAtEntry, IsCaseOf, IsEntered, IsTableOf, first_key, flow_found, flow_named, goes_to_table, is_listed, lookup_line, flow_with_number}
-use Rattle.of_symbolic_run.specs.NextStates.{AreNextStates, IsNextStateIf, chosen_row}
 use Rattle.of_symbolic_run.specs.States.{IsStateCopy, answer_to_tasks, items_for, packet_for, row_for, task_for, work_for}
-use Rattle.of_symbolic_run.proofs.FirstLemmas.{first_item, firsts, is_lookup, some_lookup}
-use Rattle.of_symbolic_run.proofs.ListedLemmas.{listed_at}
+use Rattle.of_symbolic_run.specs.{declared.dividing.Case.Case, declared.frame_set.FrameSet.FrameSet, declared.state.Emission.Emission, declared.state.SymbolicPacket.SymbolicPacket}
+use Rattle.of_symbolic_run.specs.{declared.state.SymbolicState.SymbolicState, declared.state.SymbolicTask.SymbolicTask, declared.state.Work.Work}
+use Rattle.of_symbolic_run.specs.{declared.state.Work.TheVariants.Do, declared.state.Work.TheVariants.Lookup, NextStates.AreNextStates, NextStates.IsNextStateIf, NextStates.chosen_row}
+use Rattle.of_symbolic_run.proofs.{FirstLemmas.first_item, FirstLemmas.firsts, FirstLemmas.is_lookup, FirstLemmas.some_lookup, ListedLemmas.listed_at}
 use Rattle.of_symbolic_run.proofs.NextLemmas.{copy_next, last_same, next_at_row, some_same}
 
 -- ---- instructions as work

@@ -1,10 +1,8 @@
 -- The condition that a packet came in by a port.
 use Rattle.std.proofs.Common.{◌≡◌, ℕ, ◌<◌, ◌^◌, [], ◌∷◌, arith}
 use Rattle.std.specs.Prelude.{bit_and}
-use Rattle.of_layers.specs.declared.field.Field.TheVariants.{InPort}
-use Rattle.of_layers.specs.Fields.{ones_of, row_of}
-use Rattle.of_oxm.proofs.Normal.{under_ones}
-use Rattle.of_oxm.specs.declared.match_field.MatchField.{MatchField}
+use Rattle.of_layers.specs.{declared.field.Field.TheVariants.InPort, Fields.ones_of, Fields.row_of}
+use Rattle.of_oxm.{specs.declared.match_field.MatchField.MatchField, proofs.Normal.under_ones}
 use Rattle.of_regions.specs.Conditions.{AreConditions}
 use Rattle.of_symbolic_run.specs.PortNumbers.{came_in_by}
 

@@ -1,9 +1,7 @@
 -- A state with the same packets as another.
 use Rattle.std.proofs.Common.{◌≡◌, ℕ, List, [], ◌∷◌, refl, ap}
 use Rattle.of_machine.specs.Rows.{key_of}
-use Rattle.of_symbolic_run.specs.declared.state.SymbolicPacket.{SymbolicPacket}
-use Rattle.of_symbolic_run.specs.declared.state.SymbolicTask.{SymbolicTask}
-use Rattle.of_symbolic_run.specs.Cases.{first_key}
+use Rattle.of_symbolic_run.specs.{declared.state.SymbolicPacket.SymbolicPacket, declared.state.SymbolicTask.SymbolicTask, Cases.first_key}
 use Rattle.of_symbolic_run.specs.States.{AreTaskCopies, answer_to_tasks, answer_to_works, packet_for}
 
 pub same_answer : (ts copies : List SymbolicTask) → AreTaskCopies ts copies → answer_to_tasks copies ≡ answer_to_tasks ts

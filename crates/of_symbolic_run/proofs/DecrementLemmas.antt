@@ -1,42 +1,26 @@
 -- DEC_NW_TTL of the first packet.
 use Rattle.std.proofs.Common.{◌≡◌, ◌⊎◌, inl, inr, ℕ, Bool, true, false, cond, not, List, [], ◌∷◌, ◌++◌, get_or, set, drop, Option, Some, None, refl, sym, ap, subst, ◌∙◌, arith}
-use Rattle.std.specs.Prelude.{map}
-use Rattle.std.specs.List.{Contains}
-use Rattle.std.proofs.lemmas.List.{append-nil}
+use Rattle.std.{specs.Prelude.map, specs.List.Contains, proofs.lemmas.List.append-nil}
 use Rattle.std.proofs.lemmas.List.Elements.{Contains-append_left, Contains-push, Contains-push_cases}
 use Rattle.of_layers.specs.Reading.{layers_of}
-use Rattle.of_rewrite.specs.Frames.{IsFrame, frame_ttl_decremented}
-use Rattle.of_rewrite.specs.TimeToLive.{dec_ttl_result, ttl_of}
+use Rattle.of_rewrite.specs.{Frames.IsFrame, Frames.frame_ttl_decremented, TimeToLive.dec_ttl_result, TimeToLive.ttl_of}
 use Rattle.of_actions.specs.declared.action.Action.TheVariants as actions
 use Rattle.of_wire.specs.declared.reasons.PacketInReason.TheVariants as reasons
-use Rattle.of_machine.specs.declared.data.Packet.{Packet}
-use Rattle.of_machine.specs.declared.data.Item.{Item}
-use Rattle.of_machine.specs.declared.data.Step.{Step}
-use Rattle.of_machine.specs.declared.data.Step.TheVariants.{Act as DidAct, TtlExpired}
-use Rattle.of_machine.specs.TheWorld.{TheWorld}
 use Rattle.of_machine.specs.Rows.{Row, Task, dec_ttl_row, packet_in_emitted, task}
+use Rattle.of_machine.specs.{declared.data.Packet.Packet, declared.data.Item.Item, declared.data.Step.Step, declared.data.Step.TheVariants.Act as DidAct, declared.data.Step.TheVariants.TtlExpired}
+use Rattle.of_machine.specs.TheWorld.{TheWorld}
 use Rattle.of_machine.specs.Rows as rows
-use Rattle.of_symbolic.specs.Actions.{AreRewriting}
-use Rattle.of_symbolic.proofs.Rewriting.{stays_frame}
+use Rattle.of_symbolic.{specs.Actions.AreRewriting, proofs.Rewriting.stays_frame}
 use Rattle.of_symbolic_run.specs.declared.advance.Advance.TheVariants as advances
-use Rattle.of_symbolic_run.specs.declared.dividing.Case.{Case}
-use Rattle.of_symbolic_run.specs.declared.frame_set.FrameSet.{FrameSet}
-use Rattle.of_symbolic_run.specs.declared.state.Emission.{Emission}
-use Rattle.of_symbolic_run.specs.declared.state.Emission.TheVariants.{InvalidTtl}
-use Rattle.of_symbolic_run.specs.declared.state.SymbolicPacket.{SymbolicPacket}
-use Rattle.of_symbolic_run.specs.declared.state.SymbolicState.{SymbolicState}
-use Rattle.of_symbolic_run.specs.declared.state.SymbolicTask.{SymbolicTask}
-use Rattle.of_symbolic_run.specs.declared.state.Work.TheVariants.{Act}
-use Rattle.of_symbolic_run.specs.Cases.{AreCases}
 use Rattle.of_symbolic_run.specs.Decrementing.{AddsExpired, IsDecremented, IsExpiredCase, IsLimit, IsOneMoreRewrite, first_ttl}
-use Rattle.of_symbolic_run.specs.FrameSets.{AreFramesOrNone, AreFramesThat, InFrames}
-use Rattle.of_symbolic_run.specs.NextStates.{AreNextStates, IsNextState, IsNextStateIf, chosen_row}
 use Rattle.of_symbolic_run.specs.States.{IsAt, IsStateCopy, answer_to_tasks, items_for, packet_for, task_for, work_for}
-use Rattle.of_symbolic_run.specs.TimesToLive.{expires, is_last, known_ttl, ttl_limit_of}
-use Rattle.of_symbolic_run.proofs.FirstLemmas.{first_item, firsts, is_decrement, some_decrement}
-use Rattle.of_symbolic_run.proofs.HeaderLemmas.{none_decremented}
-use Rattle.of_symbolic_run.proofs.TtlLemmas.{last_is}
 use Rattle.of_symbolic_run.proofs.NextLemmas.{copy_next, last_same, next_at, one_apart, two_apart}
+use Rattle.of_symbolic_run.specs.{declared.dividing.Case.Case, declared.frame_set.FrameSet.FrameSet, declared.state.Emission.Emission, declared.state.Emission.TheVariants.InvalidTtl}
+use Rattle.of_symbolic_run.specs.{declared.state.SymbolicPacket.SymbolicPacket, declared.state.SymbolicState.SymbolicState, declared.state.SymbolicTask.SymbolicTask}
+use Rattle.of_symbolic_run.specs.{declared.state.Work.TheVariants.Act, Cases.AreCases, FrameSets.AreFramesOrNone, FrameSets.AreFramesThat, FrameSets.InFrames}
+use Rattle.of_symbolic_run.specs.NextStates.{AreNextStates, IsNextState, IsNextStateIf, chosen_row}
+use Rattle.of_symbolic_run.specs.TimesToLive.{expires, is_last, known_ttl, ttl_limit_of}
+use Rattle.of_symbolic_run.proofs.{FirstLemmas.first_item, FirstLemmas.firsts, FirstLemmas.is_decrement, FirstLemmas.some_decrement, HeaderLemmas.none_decremented, TtlLemmas.last_is}
 use Rattle.of_symbolic_run.proofs.StepLemmas.{frames_more, items_more}
 
 -- ---- rows

@@ -1,32 +1,20 @@
 -- Sets of frames.
 use Rattle.std.proofs.Common.{◌≡◌, ◌≤◌, ◌<◌, ◌%◌, ◌^◌, ℕ, Bool, List, length, Option, Some, None, refl, sym, ap, subst, ◌∙◌, arith, inl, inr}
-use Rattle.std.specs.Prelude.{IfSome}
-use Rattle.std.proofs.Math.Nat.{mod-eq_of_lt}
-use Rattle.std.proofs.Math.Path.{fun_ext}
+use Rattle.std.{specs.Prelude.IfSome, proofs.Math.Nat.mod-eq_of_lt, proofs.Math.Path.fun_ext}
 use Rattle.of_layers.specs.declared.field.Field.{Field}
 use Rattle.of_layers.specs.declared.field.Field.TheVariants.{InPort, Metadata, VlanVid, VlanPcp}
-use Rattle.of_layers.specs.Layers.{cells, ttl}
-use Rattle.of_layers.specs.Reading.{layers_of}
+use Rattle.of_layers.specs.{Layers.cells, Layers.ttl, Reading.layers_of}
 use Rattle.of_headers.specs.FieldMap.{field_map}
 use Rattle.of_oxm.specs.declared.match_field.MatchField.{MatchField}
-use Rattle.of_rewrite.specs.Calls.{SetTtl}
-use Rattle.of_rewrite.specs.Frames.{IsFrame, frame_ttl}
-use Rattle.of_rewrite.specs.TimeToLive.{ttl_of}
 use Rattle.of_rewrite.specs.Views.{IsView, View, fields_seen, replaced_if_there, view_of, view_ttl}
-use Rattle.of_rewrite.proofs.Calling.{still_frame}
-use Rattle.of_rewrite.proofs.Unset.{frame_stands}
-use Rattle.of_rewrite.proofs.Viewing.{seen, view_follows}
-use Rattle.of_rewrite.proofs.Widths.{found_small, layers_wide, ttl_wide}
-use Rattle.of_regions.specs.declared.searching.Found.{Found}
+use Rattle.of_rewrite.{specs.Calls.SetTtl, specs.Frames.IsFrame, specs.Frames.frame_ttl, specs.TimeToLive.ttl_of, proofs.Calling.still_frame, proofs.Unset.frame_stands}
+use Rattle.of_rewrite.proofs.{Viewing.seen, Viewing.view_follows, Widths.found_small, Widths.layers_wide, Widths.ttl_wide}
+use Rattle.of_regions.specs.{declared.searching.Found.Found, Witness.IsIngressPort}
 use Rattle.of_regions.specs.declared.searching.Found.TheVariants as found
-use Rattle.of_regions.specs.Witness.{IsIngressPort}
-use Rattle.of_symbolic.specs.declared.part.Part.{Part}
-use Rattle.of_symbolic.specs.InnerTags.{description_of, inner_told}
 use Rattle.of_symbolic.specs.Parts.{AreDescriptions, FindsInPart, InPart, IsMatchedPart, IsUnmatchedPart, IsWholePart}
-use Rattle.of_symbolic.proofs.PartLemmas.{some_tagging}
-use Rattle.of_symbolic_run.specs.declared.frame_set.FrameSet.{FrameSet}
-use Rattle.of_symbolic_run.specs.declared.finding.FrameFound.TheVariants.{Empty, Undecided}
+use Rattle.of_symbolic.{specs.declared.part.Part.Part, specs.InnerTags.description_of, specs.InnerTags.inner_told, proofs.PartLemmas.some_tagging}
 use Rattle.of_symbolic_run.specs.FrameSets.{AreFramesMatching, AreFramesWithout, FindsFrame, HasTtlIn, InFrames}
+use Rattle.of_symbolic_run.specs.{declared.frame_set.FrameSet.FrameSet, declared.finding.FrameFound.TheVariants.Empty, declared.finding.FrameFound.TheVariants.Undecided}
 
 -- ---- the TTL
 

@@ -1,29 +1,18 @@
 -- A GROUP of the first packet.
 use Rattle.std.proofs.Common.{◌≡◌, ◌<◌, ◌+◌, ℕ, zero, suc, Bor, List, [], ◌∷◌, ◌++◌, length, get_or, drop, take, Option, Some, None, refl, sym, ap, subst, ◌∙◌, arith}
-use Rattle.std.specs.Prelude.{IsTrue, false, map, unwrap_or}
-use Rattle.std.specs.List.{list_all}
-use Rattle.std.specs.Option.{option_map}
+use Rattle.std.specs.{Prelude.IsTrue, Prelude.false, Prelude.map, Prelude.unwrap_or, List.list_all, Option.option_map}
 use Rattle.std.proofs.lemmas.List.{append-nil, map-append, take_more}
-use Rattle.of_actions.specs.declared.action.Action.{Action}
+use Rattle.of_actions.specs.{declared.action.Action.Action, Supported.is_supported}
 use Rattle.of_actions.specs.declared.action.Action.TheVariants as actions
-use Rattle.of_actions.specs.Supported.{is_supported}
-use Rattle.of_machine.specs.declared.data.Item.{Item}
-use Rattle.of_machine.specs.declared.data.Step.{Step}
-use Rattle.of_machine.specs.declared.data.Step.TheVariants.{Act as DidAct}
-use Rattle.of_machine.specs.TheWorld.{TheWorld}
+use Rattle.of_machine.specs.{declared.data.Item.Item, declared.data.Step.Step, declared.data.Step.TheVariants.Act as DidAct, TheWorld.TheWorld}
 use Rattle.of_machine.specs.Rows.{Task, copies, group_action_row, task}
 use Rattle.of_machine.specs.Rows as rows
 use Rattle.of_symbolic_run.specs.declared.advance.Advance.TheVariants as advances
-use Rattle.of_symbolic_run.specs.declared.state.Emission.{Emission}
-use Rattle.of_symbolic_run.specs.declared.state.SymbolicPacket.{SymbolicPacket}
-use Rattle.of_symbolic_run.specs.declared.state.SymbolicState.{SymbolicState}
-use Rattle.of_symbolic_run.specs.declared.state.SymbolicTask.{SymbolicTask}
-use Rattle.of_symbolic_run.specs.declared.state.Work.TheVariants.{Act}
 use Rattle.of_symbolic_run.specs.Groups.{AreBucketTasks, AreGroupTasks, AreServedLists, IsBucketTask, IsGroupOf, lists_of}
-use Rattle.of_symbolic_run.specs.NextStates.{IsNextState, chosen_row}
 use Rattle.of_symbolic_run.specs.States.{IsAt, answer_to_tasks, answer_to_works, items_for, packet_for, task_for, work_for}
-use Rattle.of_symbolic_run.proofs.FirstLemmas.{is_group}
-use Rattle.of_symbolic_run.proofs.NextLemmas.{next_at_row}
+use Rattle.of_symbolic_run.specs.{declared.state.Emission.Emission, declared.state.SymbolicPacket.SymbolicPacket, declared.state.SymbolicState.SymbolicState}
+use Rattle.of_symbolic_run.specs.{declared.state.SymbolicTask.SymbolicTask, declared.state.Work.TheVariants.Act, NextStates.IsNextState, NextStates.chosen_row}
+use Rattle.of_symbolic_run.proofs.{FirstLemmas.is_group, NextLemmas.next_at_row}
 
 -- ---- buckets
 

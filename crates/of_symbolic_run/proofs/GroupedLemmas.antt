@@ -1,13 +1,9 @@
 -- The actions of the buckets of a group that run.
 use Rattle.std.proofs.Common.{◌≡◌, ℕ, ◌+◌, ◌<◌, ◌≤◌, false, List, [], ◌∷◌, ◌++◌, length, drop, get_or, Option, Some, Result, Ok, Err, refl, sym, ap, subst, ◌∙◌, arith, append_assoc, add-one, drop-cons, Bor}
-use Rattle.std.specs.Prelude.{map, unwrap_or, IsTrue, OnOk}
-use Rattle.std.specs.List.{list_all}
-use Rattle.std.proofs.lemmas.List.{append-nil, drop_all}
+use Rattle.std.{specs.Prelude.map, specs.Prelude.unwrap_or, specs.Prelude.IsTrue, specs.Prelude.OnOk, specs.List.list_all, proofs.lemmas.List.append-nil, proofs.lemmas.List.drop_all}
 use Rattle.std.proofs.lemmas.Bool.Decides.{nat_tests}
-use Rattle.of_actions.specs.declared.action.Action.{Action}
-use Rattle.of_actions.specs.Supported.{are_supported, is_supported}
-use Rattle.of_machine.specs.TheWorld.{TheWorld}
-use Rattle.of_machine.specs.Sound.{AllBuckets, IsBucket}
+use Rattle.of_actions.specs.{declared.action.Action.Action, Supported.are_supported, Supported.is_supported}
+use Rattle.of_machine.specs.{TheWorld.TheWorld, Sound.AllBuckets, Sound.IsBucket}
 use Rattle.of_symbolic_run.specs.Groups.{AreServedLists, IsGroupOf, lists_of}
 
 drop_get : (l : List ℕ) (i d : ℕ) → i < length l → drop i l ≡ get_or l i d ∷ drop (i + 1) l

@@ -1,18 +1,11 @@
 -- A frame has a TTL exactly if it has IP_DSCP.
 use Rattle.std.proofs.Common.{◌≡◌, ℕ, Bool, true, false, cond, List, [], ◌∷◌, ◌++◌, Option, Some, None, refl, sym, ap, ◌∙◌}
-use Rattle.std.specs.Prelude.{◌||◌, is_some}
-use Rattle.std.specs.Option.{option_or}
-use Rattle.of_layers.specs.declared.field.Field.TheVariants.{IpDscp}
-use Rattle.of_layers.specs.Fields.{row_of, number_of}
+use Rattle.std.specs.{Prelude.◌||◌, Prelude.is_some, Option.option_or}
 use Rattle.of_layers.specs.Layers.{Body, Plain, Arp, Ipv4, Ipv6, Cell, Extension, Item, Layers, addresses, arp, body_cells, byte_cells, carried_cells, cells, cells_in, ether_type, extension_cells, inner_cells, inner_tag, ipv4, ipv6, next_before, outer_tag, tag_cells, ttl}
-use Rattle.of_layers.specs.Looking.{look, look_up, name_is}
-use Rattle.of_layers.specs.Reading.{layers_of}
-use Rattle.of_layers.specs.WellFormed.{FitsItems, IsBody, IsLayers}
-use Rattle.of_layers.proofs.FrameLemmas.{are_layers, frame_encoded}
+use Rattle.of_layers.specs.{declared.field.Field.TheVariants.IpDscp, Fields.row_of, Fields.number_of, Looking.look, Looking.look_up, Looking.name_is, Reading.layers_of}
+use Rattle.of_layers.{specs.WellFormed.FitsItems, specs.WellFormed.IsBody, specs.WellFormed.IsLayers, proofs.FrameLemmas.are_layers, proofs.FrameLemmas.frame_encoded}
 use Rattle.of_headers.proofs.LookLemmas.{lacks, look-append, look_bytes, look_front, no_name}
-use Rattle.of_rewrite.specs.Frames.{IsFrame, frame_ttl_decremented}
-use Rattle.of_rewrite.specs.TimeToLive.{ttl_of}
-use Rattle.of_rewrite.proofs.Framing.{bytes_are, is_aged}
+use Rattle.of_rewrite.{specs.Frames.IsFrame, specs.Frames.frame_ttl_decremented, specs.TimeToLive.ttl_of, proofs.Framing.bytes_are, proofs.Framing.is_aged}
 
 abbrev is_ip : Body → Bool
 is_ip (Plain rest) = false

@@ -1,27 +1,16 @@
 -- Frames with the inner tags of descriptions.
 use Rattle.std.proofs.Common.{◌≡◌, ◌≤◌, ◌+◌, ◌/◌, ◌%◌, ◌^◌, ℕ, Bool, true, false, List, [], ◌∷◌, length, Option, Some, refl, sym, ap, subst, ◌∙◌, arith}
-use Rattle.std.specs.Prelude.{map, unwrap_or}
-use Rattle.std.specs.Option.{option_map}
-use Rattle.std.proofs.Math.Path.{fun_ext}
+use Rattle.std.{specs.Prelude.map, specs.Prelude.unwrap_or, specs.Option.option_map, proofs.Math.Path.fun_ext}
 use Rattle.of_layers.specs.declared.field.Field.{Field}
 use Rattle.of_layers.specs.declared.field.Field.TheVariants.{InPort, Metadata, VlanVid, VlanPcp}
-use Rattle.of_layers.specs.Fields.{row_of}
-use Rattle.of_layers.specs.Reading.{layers_of}
-use Rattle.of_layers.specs.WellFormed.{AreTags}
-use Rattle.of_layers.proofs.FrameLemmas.{are_layers}
+use Rattle.of_layers.{specs.Fields.row_of, specs.Reading.layers_of, specs.WellFormed.AreTags, proofs.FrameLemmas.are_layers}
 use Rattle.of_headers.specs.FieldMap.{field_map, vid}
-use Rattle.of_rewrite.specs.Frames.{IsFrame}
 use Rattle.of_rewrite.specs.Views.{IsView, Tag, View, fields_seen, outermost, tag_of_numbers, view_of}
-use Rattle.of_rewrite.proofs.Viewing.{seen}
+use Rattle.of_rewrite.{specs.Frames.IsFrame, proofs.Viewing.seen}
 use Rattle.of_regions.specs.Witness.{IsShortFrame}
-use Rattle.of_symbolic.specs.Actions.{AreRewriting, frame_of_actions, view_of_actions}
-use Rattle.of_symbolic.specs.InnerTags.{description_of, inner_told, number_of_tag}
-use Rattle.of_symbolic.specs.Parts.{may_tell}
-use Rattle.of_symbolic.proofs.Rewriting.{stays_frame, views_follow_all}
-use Rattle.of_symbolic.proofs.Vids.{four_small}
-use Rattle.of_symbolic.proofs.WholeLemmas.{IsNumberOfTag, number_not_zero, pcp_small}
-use Rattle.of_symbolic_run.specs.FrameSets.{actions_put_below}
-use Rattle.of_symbolic_run.proofs.FrameLemmas.{own_view}
+use Rattle.of_symbolic.specs.{Actions.AreRewriting, Actions.frame_of_actions, Actions.view_of_actions, InnerTags.description_of, InnerTags.inner_told, InnerTags.number_of_tag, Parts.may_tell}
+use Rattle.of_symbolic.proofs.{Rewriting.stays_frame, Rewriting.views_follow_all, Vids.four_small, WholeLemmas.IsNumberOfTag, WholeLemmas.number_not_zero, WholeLemmas.pcp_small}
+use Rattle.of_symbolic_run.{specs.FrameSets.actions_put_below, proofs.FrameLemmas.own_view}
 
 -- ---- a frame with one tag at most
 

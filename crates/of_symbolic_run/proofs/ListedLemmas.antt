@@ -1,21 +1,12 @@
 -- Branches of which some are kept.
 use Rattle.std.proofs.Common.{◌≡◌, ◌<◌, ℕ, zero, suc, Bool, true, false, cond, List, [], ◌∷◌, length, Option, Some, None, refl, sym, ap, subst, ◌∙◌, arith, filter}
-use Rattle.std.specs.Prelude.{slice_get}
-use Rattle.std.specs.List.{Contains}
-use Rattle.std.proofs.lemmas.Bool.Decides.{nat_tests}
-use Rattle.std.proofs.lemmas.List.{length-map}
+use Rattle.std.{specs.Prelude.slice_get, specs.List.Contains, proofs.lemmas.Bool.Decides.nat_tests, proofs.lemmas.List.length-map}
 use Rattle.std.proofs.lemmas.Option.{get_or_from_slice_get, slice_get-get_or, slice_get_within}
 use Rattle.of_layers.specs.declared.field.Field.{Field}
 use Rattle.of_actions.specs.declared.action.Action.{Action}
-use Rattle.of_table.specs.declared.entry.Entry.{Entry}
-use Rattle.of_table.specs.Entries.{entry_of, flows_of}
-use Rattle.of_table.specs.Table.{winner_place}
-use Rattle.of_table.proofs.WinnerLemmas.{winner_within}
-use Rattle.of_symbolic.specs.declared.branching.Branch.{Branch}
-use Rattle.of_symbolic.specs.declared.part.Part.{Part}
-use Rattle.of_symbolic.specs.Branches.{AreBranches, HaveDistinctEntries}
-use Rattle.of_symbolic_run.specs.Cases.{is_listed}
-use Rattle.of_symbolic_run.proofs.NextLemmas.{some_same}
+use Rattle.of_table.{specs.declared.entry.Entry.Entry, specs.Entries.entry_of, specs.Entries.flows_of, specs.Table.winner_place, proofs.WinnerLemmas.winner_within}
+use Rattle.of_symbolic.specs.{declared.branching.Branch.Branch, declared.part.Part.Part, Branches.AreBranches, Branches.HaveDistinctEntries}
+use Rattle.of_symbolic_run.{specs.Cases.is_listed, proofs.NextLemmas.some_same}
 
 pub listed_at : (branches : List Branch) (k : ℕ) (b : Branch) → slice_get branches k ≡ Some b → Contains branches b
 listed_at branches k b at = (k, slice_get_within branches k b at, get_or_from_slice_get branches k b b at)

@@ -1,16 +1,10 @@
 -- Conditions that say nothing about METADATA are the same of a frame's description and of its fields.
 use Rattle.std.proofs.Common.{◌≡◌, ℕ, Bool, true, false, List, [], ◌∷◌, refl, ap}
-use Rattle.std.specs.Prelude.{◌&&◌, ◌||◌}
-use Rattle.std.specs.List.{list_any}
-use Rattle.of_layers.specs.declared.field.Field.{Field}
-use Rattle.of_layers.specs.declared.field.Field.TheVariants.{Metadata}
-use Rattle.of_layers.specs.Layers.{Layers}
-use Rattle.of_layers.specs.Reading.{layers_of}
+use Rattle.std.specs.{Prelude.◌&&◌, Prelude.◌||◌, List.list_any}
+use Rattle.of_layers.specs.{declared.field.Field.Field, declared.field.Field.TheVariants.Metadata, Layers.Layers, Reading.layers_of}
 use Rattle.of_headers.specs.FieldMap.{field_map}
-use Rattle.of_oxm.specs.declared.match_field.MatchField.{MatchField}
-use Rattle.of_oxm.specs.Relations.{agrees, matches_map}
-use Rattle.of_symbolic.specs.InnerTags.{description_of}
-use Rattle.of_symbolic.specs.Parts.{received_fields}
+use Rattle.of_oxm.specs.{declared.match_field.MatchField.MatchField, Relations.agrees, Relations.matches_map}
+use Rattle.of_symbolic.specs.{InnerTags.description_of, Parts.received_fields}
 use Rattle.of_symbolic_run.specs.FrameSets.{is_about_metadata, is_metadata}
 
 at_field : (l : Layers) (port n : ℕ) (f : Field) → is_metadata f ≡ false → field_map l port n f ≡ field_map l port 0 f

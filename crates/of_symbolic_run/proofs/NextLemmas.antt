@@ -1,17 +1,11 @@
 -- The next states of a run.
 use Rattle.std.proofs.Common.{◌≡◌, ◌<◌, ℕ, zero, suc, Bool, false, List, [], ◌∷◌, ◌++◌, length, Option, Some, None, refl, sym, ap, ◌∙◌, arith}
 use Rattle.std.specs.Prelude.{map, slice_get}
-use Rattle.of_machine.specs.declared.data.Item.{Item}
-use Rattle.of_machine.specs.declared.data.Step.{Step}
-use Rattle.of_machine.specs.TheWorld.{TheWorld}
-use Rattle.of_machine.specs.Rows.{Row, Task}
+use Rattle.of_machine.specs.{declared.data.Item.Item, declared.data.Step.Step, TheWorld.TheWorld, Rows.Row, Rows.Task}
 use Rattle.of_symbolic_run.specs.declared.advance.Advance.TheVariants as advances
-use Rattle.of_symbolic_run.specs.declared.dividing.Case.{Case}
-use Rattle.of_symbolic_run.specs.declared.state.Emission.{Emission}
-use Rattle.of_symbolic_run.specs.declared.state.SymbolicState.{SymbolicState}
-use Rattle.of_symbolic_run.specs.declared.state.SymbolicTask.{SymbolicTask}
 use Rattle.of_symbolic_run.specs.NextStates.{AreNextStates, HaveDistinctSteps, IsNextState, IsNextStateIf, chosen_row}
 use Rattle.of_symbolic_run.specs.States.{AreTaskCopies, IsAt, TakesStep, TellsStep, answer_to_tasks, items_for, row_for, task_for}
+use Rattle.of_symbolic_run.specs.{declared.dividing.Case.Case, declared.state.Emission.Emission, declared.state.SymbolicState.SymbolicState, declared.state.SymbolicTask.SymbolicTask}
 use Rattle.of_symbolic_run.proofs.RunLemmas.{same_tasks, taken_at}
 
 -- ---- a frame that takes the step

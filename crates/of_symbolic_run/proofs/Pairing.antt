@@ -1,8 +1,6 @@
 -- Two walks side by side, which go on as long as both have the same.
 use Rattle.std.proofs.Common.{◌≡◌, ℕ, ◌+◌, ◌<◌, Bool, true, false, List, [], ◌∷◌, length, drop, get_or, Option, Some, None, Decides, refl, sym, ap, ◌∙◌, arith}
-use Rattle.std.specs.Prelude.{not}
-use Rattle.std.specs.Option.{IfNone, IfSome, MatchOption, is_some}
-use Rattle.std.proofs.lemmas.List.{drop_more}
+use Rattle.std.{specs.Prelude.not, specs.Option.IfNone, specs.Option.IfSome, specs.Option.MatchOption, specs.Option.is_some, proofs.lemmas.List.drop_more}
 
 -- whether the whole lists are the same is whether what is left of them is
 pub record SameIfLeft {X : Type 0} (whole other xs ys : List X) : Type 0 where

@@ -1,23 +1,14 @@
 -- Frames that come in by a port that is there.
 use Rattle.std.proofs.Common.{◌≡◌, ℕ, zero, suc, ◌+◌, ◌≤◌, ◌<◌, ◌^◌, eqb, cond, Bool, true, false, List, [], ◌∷◌, get_or, length, take, Some, refl, sym, ap, subst, ◌∙◌, arith, inl, inr}
-use Rattle.std.specs.Prelude.{nat_lt, ◌&&◌}
-use Rattle.std.specs.Global.{Vec}
-use Rattle.std.specs.List.{Contains, list_all}
-use Rattle.std.proofs.lemmas.Bool.{eq-eqb, eqb-true}
-use Rattle.std.proofs.lemmas.Bool.Decides.{nat_tests}
-use Rattle.std.proofs.lemmas.List.Folds.{list_all_at}
+use Rattle.std.{specs.Prelude.nat_lt, specs.Prelude.◌&&◌, specs.Global.Vec, specs.List.Contains, specs.List.list_all, proofs.lemmas.Bool.eq-eqb, proofs.lemmas.Bool.eqb-true}
+use Rattle.std.proofs.{lemmas.Bool.Decides.nat_tests, lemmas.List.Folds.list_all_at}
 use Rattle.of_actions.specs.Rising.{is_ascending}
-use Rattle.of_oxm.specs.declared.match_field.MatchField.{MatchField}
-use Rattle.of_oxm.specs.Relations.{matches_map}
+use Rattle.of_oxm.specs.{declared.match_field.MatchField.MatchField, Relations.matches_map}
 use Rattle.of_rewrite.specs.Frames.{IsFrame}
-use Rattle.of_ports.specs.declared.port.Port.{Port}
-use Rattle.of_ports.specs.Ports.{number_of_port, port_at}
+use Rattle.of_ports.specs.{declared.port.Port.Port, Ports.number_of_port, Ports.port_at}
 use Rattle.of_machine.specs.TheWorld.{TheWorld}
-use Rattle.of_symbolic.specs.InnerTags.{description_of}
-use Rattle.of_symbolic.proofs.PartLemmas.{first_or_next}
-use Rattle.of_symbolic_run.specs.declared.frame_set.FrameSet.{FrameSet}
-use Rattle.of_symbolic_run.specs.FrameSets.{AreFramesWithout, InFrames}
-use Rattle.of_symbolic_run.specs.Received.{AreReceived, IsReceivedAt}
+use Rattle.of_symbolic.{specs.InnerTags.description_of, proofs.PartLemmas.first_or_next}
+use Rattle.of_symbolic_run.specs.{declared.frame_set.FrameSet.FrameSet, FrameSets.AreFramesWithout, FrameSets.InFrames, Received.AreReceived, Received.IsReceivedAt}
 use Rattle.of_symbolic_run.specs.PortNumbers.{IsAbsence, IsReceiverOrNamed, IsReceivingPort}
 
 record IsThere (ports : List Port) (n : ℕ) (p : Port) : Type 0 where

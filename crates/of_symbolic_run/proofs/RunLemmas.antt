@@ -1,21 +1,13 @@
 -- The run of each frame after one more step.
 use Rattle.std.proofs.Common.{◌≡◌, ◌<◌, ◌+◌, ℕ, suc, List, [], ◌∷◌, ◌++◌, length, get_or, take, refl, sym, ◌∙◌, ap, subst}
-use Rattle.std.specs.Prelude.{map}
-use Rattle.std.proofs.lemmas.List.{take_more}
-use Rattle.of_machine.specs.declared.data.Packet.{Packet}
-use Rattle.of_machine.specs.declared.data.Item.{Item}
-use Rattle.of_machine.specs.declared.data.Step.{Step}
-use Rattle.of_machine.specs.TheWorld.{TheWorld}
+use Rattle.std.{specs.Prelude.map, proofs.lemmas.List.take_more}
 use Rattle.of_machine.specs.Rows.{Work, Lookup, Task, task, row, entering}
 use Rattle.of_machine.specs.Runs.{Machine, after, run_of, step, starting}
-use Rattle.of_machine.specs.Sound.{IsSound}
+use Rattle.of_machine.specs.{declared.data.Packet.Packet, declared.data.Item.Item, declared.data.Step.Step, TheWorld.TheWorld, Sound.IsSound}
 use Rattle.of_machine.proofs.Whole.{frame_fits, run_is}
-use Rattle.of_symbolic_run.specs.declared.advance.Advance.{Advance}
-use Rattle.of_symbolic_run.specs.declared.advance.Advance.TheVariants as advances
-use Rattle.of_symbolic_run.specs.declared.state.SymbolicTask.{SymbolicTask}
-use Rattle.of_symbolic_run.specs.declared.state.SymbolicState.{SymbolicState}
-use Rattle.of_symbolic_run.specs.declared.state.Emission.{Emission}
 use Rattle.of_symbolic_run.specs.States.{Advances, AreTaskCopies, IsAt, IsStateCopy, IsTaskCopy, TakesStep, TellsAdvance, TellsStep, items_for, packet_for, row_for, task_for, work_for}
+use Rattle.of_symbolic_run.specs.{declared.advance.Advance.Advance, declared.state.SymbolicTask.SymbolicTask, declared.state.SymbolicState.SymbolicState, declared.state.Emission.Emission}
+use Rattle.of_symbolic_run.specs.declared.advance.Advance.TheVariants as advances
 
 after_next : (w : TheWorld) (n : ℕ) (m : Machine) → after w (suc n) m ≡ step w (after w n m)
 unfolding after

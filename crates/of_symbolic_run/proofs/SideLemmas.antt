@@ -1,20 +1,12 @@
 -- A step of one run.
 use Rattle.std.proofs.Common.{◌≡◌, ◌<◌, ◌≤◌, ℕ, Bool, List, length, refl, sym, subst, ◌⊎◌, inl, inr}
 use Rattle.of_wire.specs.declared.limits.TheConstants.{TABLES}
-use Rattle.of_table.specs.Table.{FlowEntry}
-use Rattle.of_table.specs.Tables.{table_at}
+use Rattle.of_table.specs.{Table.FlowEntry, Tables.table_at}
 use Rattle.of_machine.specs.TheWorld.{TheWorld}
 use Rattle.of_datapath.specs.Datapath.{Forwarding, world_of}
-use Rattle.of_symbolic_run.specs.declared.advance.Advance.TheVariants.{Lookup}
-use Rattle.of_symbolic_run.specs.declared.dividing.Case.{Case}
-use Rattle.of_symbolic_run.specs.declared.frame_set.FrameSet.{FrameSet}
-use Rattle.of_symbolic_run.specs.declared.state.SymbolicState.{SymbolicState}
-use Rattle.of_symbolic_run.specs.declared.state.SymbolicTask.{SymbolicTask}
-use Rattle.of_symbolic_run.specs.Cases.{AreCases, AsksUnknownOf, IsTableOf}
-use Rattle.of_symbolic_run.specs.States.{IsAt, answer_to_tasks}
-use Rattle.of_symbolic_run.specs.declared.side.Side.{Side}
-use Rattle.of_symbolic_run.specs.declared.side.Side.TheVariants.{Advanced, Divided, Unknown}
-use Rattle.of_symbolic_run.specs.Sides.{IsUnknownLookup, SideIs}
+use Rattle.of_symbolic_run.specs.{declared.advance.Advance.TheVariants.Lookup, declared.dividing.Case.Case, declared.frame_set.FrameSet.FrameSet, declared.state.SymbolicState.SymbolicState}
+use Rattle.of_symbolic_run.specs.{declared.state.SymbolicTask.SymbolicTask, Cases.AreCases, Cases.AsksUnknownOf, Cases.IsTableOf, States.IsAt, States.answer_to_tasks, declared.side.Side.Side}
+use Rattle.of_symbolic_run.specs.{declared.side.Side.TheVariants.Advanced, declared.side.Side.TheVariants.Divided, declared.side.Side.TheVariants.Unknown, Sides.IsUnknownLookup, Sides.SideIs}
 use Rattle.of_symbolic_run.proofs.NextLemmas.{next_from, states_from}
 
 -- ---- a lookup

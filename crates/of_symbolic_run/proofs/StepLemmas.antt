@@ -1,33 +1,24 @@
 -- What each kind of work leaves of a packet.
 use Rattle.std.proofs.Common.{◌≡◌, ℕ, Bool, true, false, cond, List, [], ◌∷◌, ◌++◌, refl, sym, ◌∙◌, ap, drop, Some, None, length, get_or, ◌<◌, ◌≤◌, ◌+◌, append_assoc}
-use Rattle.std.specs.Prelude.{map, IsTrue, slice_get}
-use Rattle.std.proofs.lemmas.List.{append-nil, map-append, drop_all}
+use Rattle.std.{specs.Prelude.map, specs.Prelude.IsTrue, specs.Prelude.slice_get, proofs.lemmas.List.append-nil, proofs.lemmas.List.map-append, proofs.lemmas.List.drop_all}
 use Rattle.std.proofs.lemmas.Option.{slice_get-get_or}
 use Rattle.of_actions.specs.declared.action.Action.{Action}
-use Rattle.of_actions.specs.declared.action.Action.TheVariants as actions
-use Rattle.of_action_set.specs.Sets.{with_action, with_actions}
 use Rattle.of_actions.specs.declared.instruction.Instruction.TheVariants.{Apply, Write, Goto}
-use Rattle.of_actions.specs.declared.instruction.Instruction.TheVariants as instructions
-use Rattle.of_action_set.specs.Sets.{in_order}
-use Rattle.of_ports.specs.declared.port.Port.{Port}
-use Rattle.of_machine.specs.declared.data.Packet.{Packet}
-use Rattle.of_machine.specs.declared.data.Step.{Step}
-use Rattle.of_machine.specs.declared.data.Step.TheVariants as step
-use Rattle.of_machine.specs.TheWorld.{TheWorld}
-use Rattle.of_machine.specs.Rows.{acts, emission, no_cookie}
-use Rattle.of_machine.specs.Rows as rows
-use Rattle.of_machine.proofs.Moving.{acts_at}
 use Rattle.of_actions.specs.Supported.{is_supported}
+use Rattle.of_actions.specs.declared.action.Action.TheVariants as actions
+use Rattle.of_action_set.specs.Sets.{with_action, with_actions, in_order}
+use Rattle.of_actions.specs.declared.instruction.Instruction.TheVariants as instructions
+use Rattle.of_ports.specs.declared.port.Port.{Port}
+use Rattle.of_machine.{specs.declared.data.Packet.Packet, specs.declared.data.Step.Step, specs.TheWorld.TheWorld, specs.Rows.acts, specs.Rows.emission, specs.Rows.no_cookie, proofs.Moving.acts_at}
 use Rattle.of_machine.proofs.Promises.{out_of_tables, settable, tag_type}
+use Rattle.of_machine.specs.declared.data.Step.TheVariants as step
+use Rattle.of_machine.specs.Rows as rows
 use Rattle.of_symbolic.specs.Actions.{AreRewriting, IsRewriting, call_of, frame_by, frame_of_actions}
-use Rattle.of_symbolic_run.specs.declared.advance.Advance.TheVariants.{Done}
-use Rattle.of_symbolic_run.specs.declared.state.SymbolicTask.{SymbolicTask}
-use Rattle.of_symbolic_run.specs.declared.state.Emission.{Emission}
-use Rattle.of_symbolic_run.specs.declared.state.Emission.TheVariants as emissions
-use Rattle.of_symbolic_run.specs.declared.state.Work.{Work}
+use Rattle.of_symbolic_run.specs.States.{TakesRow, TellsAdvance, answer_to, items_for, items_of_emission, work_line, packet_for, row_for, work_for}
+use Rattle.of_symbolic_run.specs.{declared.advance.Advance.TheVariants.Done, declared.state.SymbolicTask.SymbolicTask, declared.state.Emission.Emission, declared.state.Work.Work}
 use Rattle.of_symbolic_run.specs.declared.state.Work.TheVariants.{Lookup, Do, RunSet, Act}
 use Rattle.of_symbolic_run.specs.Rewriting.{rewrites_alike, rewrites_frames}
-use Rattle.of_symbolic_run.specs.States.{TakesRow, TellsAdvance, answer_to, items_for, items_of_emission, work_line, packet_for, row_for, work_for}
+use Rattle.of_symbolic_run.specs.declared.state.Emission.TheVariants as emissions
 
 pub first_is : (l : List Work) (x : Work) → slice_get l 0 ≡ Some x → l ≡ x ∷ drop 1 l
 first_is [] x h = cc

@@ -1,24 +1,12 @@
 -- The frames of a set for which DEC_NW_TTL expires, and the others.
 use Rattle.std.proofs.Common.{◌≡◌, ◌≤◌, ◌<◌, ◌+◌, ℕ, Bool, true, false, List, [], ◌∷◌, Option, Some, None, refl, sym, ap, subst, ◌∙◌, arith}
-use Rattle.std.specs.Prelude.{not, nat_le, is_some, IfSome}
-use Rattle.std.proofs.lemmas.Bool.{le-leb, lt-leb}
-use Rattle.std.proofs.lemmas.Bool.Decides.{nat_tests}
-use Rattle.of_layers.specs.declared.field.Field.TheVariants.{IpDscp}
-use Rattle.of_layers.specs.Layers.{cells}
-use Rattle.of_layers.specs.Looking.{look}
-use Rattle.of_layers.specs.Reading.{layers_of}
-use Rattle.of_oxm.specs.declared.match_field.MatchField.{MatchField}
-use Rattle.of_oxm.specs.Relations.{matches_map}
-use Rattle.of_rewrite.specs.Frames.{IsFrame}
-use Rattle.of_rewrite.specs.TimeToLive.{ttl_of}
-use Rattle.of_symbolic.specs.declared.part.Part.{Part}
-use Rattle.of_symbolic.specs.InnerTags.{description_of}
-use Rattle.of_symbolic.specs.Parts.{InPart}
-use Rattle.of_symbolic.proofs.VidBits.{and_zero}
-use Rattle.of_symbolic_run.specs.declared.frame_set.FrameSet.{FrameSet}
-use Rattle.of_symbolic_run.specs.FrameSets.{AreFramesMatching, AreFramesThat, AreFramesWithout, InFrames}
-use Rattle.of_symbolic_run.specs.TimesToLive.{expires, higher_of, is_up_to, lower_of}
-use Rattle.of_symbolic_run.proofs.HeaderLemmas.{ttl_or_none}
+use Rattle.std.{specs.Prelude.not, specs.Prelude.nat_le, specs.Prelude.is_some, specs.Prelude.IfSome, proofs.lemmas.Bool.le-leb, proofs.lemmas.Bool.lt-leb, proofs.lemmas.Bool.Decides.nat_tests}
+use Rattle.of_layers.specs.{declared.field.Field.TheVariants.IpDscp, Layers.cells, Looking.look, Reading.layers_of}
+use Rattle.of_oxm.specs.{declared.match_field.MatchField.MatchField, Relations.matches_map}
+use Rattle.of_rewrite.specs.{Frames.IsFrame, TimeToLive.ttl_of}
+use Rattle.of_symbolic.{specs.declared.part.Part.Part, specs.InnerTags.description_of, specs.Parts.InPart, proofs.VidBits.and_zero}
+use Rattle.of_symbolic_run.specs.{declared.frame_set.FrameSet.FrameSet, FrameSets.AreFramesMatching, FrameSets.AreFramesThat, FrameSets.AreFramesWithout, FrameSets.InFrames}
+use Rattle.of_symbolic_run.{specs.TimesToLive.expires, specs.TimesToLive.higher_of, specs.TimesToLive.is_up_to, specs.TimesToLive.lower_of, proofs.HeaderLemmas.ttl_or_none}
 
 abbrev pub has_ttl : MatchField
 has_ttl = record { field = IpDscp; value = 0; mask = Some 0 }

@@ -1,22 +1,14 @@
 -- What is known of the TTL.
 use Rattle.std.proofs.Common.{◌≡◌, ◌≤◌, ◌<◌, ◌+◌, ◌%◌, ◌^◌, ℕ, Bool, true, false, cond, List, [], ◌∷◌, ◌++◌, length, get_or, take, Option, Some, None, refl, sym, ap, ◌∙◌, arith}
-use Rattle.std.specs.Prelude.{nat_le, nat_lt}
-use Rattle.std.specs.List.{fold}
-use Rattle.std.specs.Option.{option_map}
-use Rattle.std.proofs.lemmas.Bool.{le-leb}
-use Rattle.std.proofs.lemmas.Bool.Decides.{nat_tests}
-use Rattle.std.proofs.lemmas.List.{take_more}
+use Rattle.std.{specs.Prelude.nat_le, specs.Prelude.nat_lt, specs.List.fold, specs.Option.option_map, proofs.lemmas.Bool.le-leb, proofs.lemmas.Bool.Decides.nat_tests, proofs.lemmas.List.take_more}
 use Rattle.of_layers.specs.Reading.{layers_of}
-use Rattle.of_rewrite.specs.Frames.{IsFrame}
-use Rattle.of_rewrite.specs.TimeToLive.{ttl_of}
-use Rattle.of_rewrite.specs.Views.{View, view_of}
+use Rattle.of_rewrite.specs.{Frames.IsFrame, TimeToLive.ttl_of, Views.View, Views.view_of}
 use Rattle.of_actions.specs.declared.action.Action.{Action}
 use Rattle.of_actions.specs.declared.action.Action.TheVariants as actions
 use Rattle.of_symbolic.specs.Actions.{AreRewriting, call_of, frame_of_actions, view_by, view_of_actions}
 use Rattle.of_symbolic.proofs.Rewriting.{views_follow_all}
-use Rattle.of_symbolic_run.specs.declared.known_ttl.KnownTtl.{KnownTtl}
-use Rattle.of_symbolic_run.specs.declared.known_ttl.KnownTtl.TheVariants.{Less, Fixed}
 use Rattle.of_symbolic_run.specs.TimesToLive.{IsBelowMost, expires, is_last, is_up_to, known_ttl, less, ttl_limit_of, one_less, ttl_as, ttl_by, ttl_decremented}
+use Rattle.of_symbolic_run.specs.{declared.known_ttl.KnownTtl.KnownTtl, declared.known_ttl.KnownTtl.TheVariants.Less, declared.known_ttl.KnownTtl.TheVariants.Fixed}
 use Rattle.of_symbolic_run.proofs.FrameLemmas.{own_view, ttl_small}
 
 -- ---- numbers

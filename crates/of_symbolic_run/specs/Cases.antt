@@ -1,33 +1,15 @@
 -- WHAT A STATE BECOMES FOR PARTS OF ITS FRAMES (OpenFlow 1.3.5, 5.3, 5.6 and 5.12).
 use Rattle.std.specs.Prelude.{◌≡◌, ℕ, nat_lt, Bool, true, false, List, [], ◌∷◌, Option, None, Some, map, ⊤}
-use Rattle.std.specs.Borrow.{Bor}
-use Rattle.std.specs.List.{Contains}
-use Rattle.std.specs.Option.{option_map}
+use Rattle.std.specs.{Borrow.Bor, List.Contains, Option.option_map}
 use Rattle.of_layers.specs.declared.field.Field.{Field}
 use Rattle.of_rewrite.specs.Frames.{IsFrame}
-use Rattle.of_actions.specs.declared.instruction.Instruction.{Instruction}
-use Rattle.of_actions.specs.declared.instruction.Instruction.TheVariants.{Goto}
-use Rattle.of_table.specs.declared.entry.Entry.{Entry}
-use Rattle.of_table.specs.declared.flow.Flow.{Flow}
-use Rattle.of_table.specs.Table.{FlowEntry, flow_at, winner_place}
-use Rattle.of_machine.specs.declared.data.Step.{Step}
-use Rattle.of_machine.specs.declared.data.Step.TheVariants.{Entry as AtEntry, Miss}
-use Rattle.of_machine.specs.Rows.{is_miss, key_of, works}
-use Rattle.of_machine.specs.TheWorld.{TheWorld}
-use Rattle.of_symbolic.specs.declared.branching.Branch.{Branch}
-use Rattle.of_symbolic.specs.declared.overlay.Overlay.{Overlay}
-use Rattle.of_symbolic.specs.declared.part.Part.{Part}
-use Rattle.of_symbolic.specs.Branches.{AsksUnknown}
-use Rattle.of_symbolic.specs.InnerTags.{description_of}
-use Rattle.of_symbolic.specs.Overlays.{IsOverlay}
+use Rattle.of_actions.specs.{declared.instruction.Instruction.Instruction, declared.instruction.Instruction.TheVariants.Goto}
+use Rattle.of_table.specs.{declared.entry.Entry.Entry, declared.flow.Flow.Flow, Table.FlowEntry, Table.flow_at, Table.winner_place}
+use Rattle.of_machine.specs.{declared.data.Step.Step, declared.data.Step.TheVariants.Entry as AtEntry, declared.data.Step.TheVariants.Miss, Rows.is_miss, Rows.key_of, Rows.works, TheWorld.TheWorld}
+use Rattle.of_symbolic.specs.{declared.branching.Branch.Branch, declared.overlay.Overlay.Overlay, declared.part.Part.Part, Branches.AsksUnknown, InnerTags.description_of, Overlays.IsOverlay}
 use Rattle.of_symbolic.specs.Parts.{AreListsOfConditions, InPart}
-use Rattle.of_symbolic_run.specs.declared.dividing.Case.{Case}
-use Rattle.of_symbolic_run.specs.declared.frame_set.FrameSet.{FrameSet}
-use Rattle.of_symbolic_run.specs.declared.state.SymbolicState.{SymbolicState}
-use Rattle.of_symbolic_run.specs.declared.state.SymbolicTask.{SymbolicTask}
-use Rattle.of_symbolic_run.specs.FrameSets.{InFrames}
-use Rattle.of_symbolic_run.specs.NextStates.{IsNextStateIf}
-use Rattle.of_symbolic_run.specs.States.{IsAt, packet_for, work_for}
+use Rattle.of_symbolic_run.specs.{declared.dividing.Case.Case, declared.frame_set.FrameSet.FrameSet, declared.state.SymbolicState.SymbolicState, declared.state.SymbolicTask.SymbolicTask}
+use Rattle.of_symbolic_run.specs.{FrameSets.InFrames, NextStates.IsNextStateIf, States.IsAt, States.packet_for, States.work_for}
 
 -- THE CASES of a state for some frames: no case has other frames, each frame is in a case, and the state of a case is one of the run of each of its frames
 pub record AreCases (w : TheWorld) (frames : FrameSet) (state : SymbolicState) (cases : List Case) : Type 0 where

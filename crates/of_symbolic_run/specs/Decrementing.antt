@@ -1,19 +1,12 @@
 -- DEC_NW_TTL of the first packet, for each frame (OpenFlow 1.3.5, 5.12).
 use Rattle.std.specs.Prelude.{◌≡◌, ◌⊎◌, ◌++◌, ℕ, Bool, true, List, [], ◌∷◌, drop, Option, None}
 use Rattle.of_layers.specs.Reading.{layers_of}
-use Rattle.of_rewrite.specs.Frames.{IsFrame}
-use Rattle.of_rewrite.specs.TimeToLive.{ttl_of}
+use Rattle.of_rewrite.specs.{Frames.IsFrame, TimeToLive.ttl_of}
 use Rattle.of_machine.specs.TheWorld.{TheWorld}
 use Rattle.of_actions.specs.declared.action.Action.{Action}
 use Rattle.of_symbolic.specs.Actions.{AreRewriting, frame_of_actions}
-use Rattle.of_symbolic_run.specs.declared.dividing.Case.{Case}
-use Rattle.of_symbolic_run.specs.declared.frame_set.FrameSet.{FrameSet}
-use Rattle.of_symbolic_run.specs.declared.state.SymbolicState.{SymbolicState}
-use Rattle.of_symbolic_run.specs.declared.state.SymbolicTask.{SymbolicTask}
-use Rattle.of_symbolic_run.specs.FrameSets.{AreFramesOrNone, AreFramesThat}
-use Rattle.of_symbolic_run.specs.NextStates.{IsNextStateIf}
-use Rattle.of_symbolic_run.specs.States.{IsAt}
-use Rattle.of_symbolic_run.specs.TimesToLive.{expires, is_last}
+use Rattle.of_symbolic_run.specs.{declared.dividing.Case.Case, declared.frame_set.FrameSet.FrameSet, declared.state.SymbolicState.SymbolicState, declared.state.SymbolicTask.SymbolicTask}
+use Rattle.of_symbolic_run.specs.{FrameSets.AreFramesOrNone, FrameSets.AreFramesThat, NextStates.IsNextStateIf, States.IsAt, TimesToLive.expires, TimesToLive.is_last}
 
 -- the TTL of the first packet, for a frame
 abbrev pub first_ttl : List SymbolicTask → List ℕ → Option ℕ

@@ -1,9 +1,5 @@
 -- That lists are of conditions has one proof at most.
-use Rattle.std.proofs.Math.Nat.{ℕ_set}
-use Rattle.std.proofs.Math.Path.{fun_ext}
-use Rattle.std.specs.Prelude.{List}
-use Rattle.std.specs.Global.{Vec}
-use Rattle.std.specs.List.{AllByRecursion-prop}
+use Rattle.std.{specs.Prelude.List, specs.Global.Vec, specs.List.AllByRecursion-prop, proofs.Math.Nat.ℕ_set, proofs.Math.Path.fun_ext}
 use Rattle.of_oxm.specs.declared.match_field.MatchField.{MatchField}
 use Rattle.of_regions.specs.Conditions.{IsCondition}
 use Rattle.of_symbolic.specs.Parts.{AreListsOfConditions}

@@ -1,21 +1,14 @@
 -- SETS OF FRAMES THAT COME IN, each by a port (OpenFlow 1.3.5, 5.1).
 use Rattle.std.specs.Prelude.{◌≡◌, ◌≤◌, ◌⊎◌, ◌/◌, ◌%◌, ℕ, Bool, true, false, List, [], ◌∷◌, length, Option, None, Some, IfSome}
-use Rattle.of_layers.specs.declared.field.Field.{Field}
-use Rattle.of_layers.specs.declared.field.Field.TheVariants.{Metadata, VlanPcp, VlanVid}
+use Rattle.of_layers.specs.{declared.field.Field.Field, declared.field.Field.TheVariants.Metadata, declared.field.Field.TheVariants.VlanPcp, declared.field.Field.TheVariants.VlanVid}
 use Rattle.of_layers.specs.Reading.{layers_of}
-use Rattle.of_oxm.specs.declared.match_field.MatchField.{MatchField}
-use Rattle.of_oxm.specs.Relations.{matches_map}
-use Rattle.of_rewrite.specs.Frames.{IsFrame}
-use Rattle.of_rewrite.specs.TimeToLive.{ttl_of}
-use Rattle.of_actions.specs.declared.action.Action.{Action}
-use Rattle.of_actions.specs.declared.action.Action.TheVariants.{PushVlan, SetField}
-use Rattle.of_regions.specs.declared.region.Region.{Region}
+use Rattle.of_oxm.specs.{declared.match_field.MatchField.MatchField, Relations.matches_map}
+use Rattle.of_rewrite.specs.{Frames.IsFrame, TimeToLive.ttl_of}
+use Rattle.of_actions.specs.{declared.action.Action.Action, declared.action.Action.TheVariants.PushVlan, declared.action.Action.TheVariants.SetField}
+use Rattle.of_regions.specs.{declared.region.Region.Region, Witness.IsIngressPort}
 use Rattle.of_regions.specs.declared.searching.Found.TheVariants as found
-use Rattle.of_regions.specs.Witness.{IsIngressPort}
-use Rattle.of_symbolic.specs.InnerTags.{description_of}
-use Rattle.of_symbolic.specs.Parts.{FindsInPart, InPart, IsUnreceivedPart}
-use Rattle.of_symbolic_run.specs.declared.frame_set.FrameSet.{FrameSet}
-use Rattle.of_symbolic_run.specs.declared.finding.FrameFound.{FrameFound}
+use Rattle.of_symbolic.specs.{InnerTags.description_of, Parts.FindsInPart, Parts.InPart, Parts.IsUnreceivedPart}
+use Rattle.of_symbolic_run.specs.{declared.frame_set.FrameSet.FrameSet, declared.finding.FrameFound.FrameFound}
 use Rattle.of_symbolic_run.specs.declared.finding.FrameFound.TheVariants.{Frame, Empty, Undecided}
 
 -- ---- conditions

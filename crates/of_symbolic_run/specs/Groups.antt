@@ -1,14 +1,9 @@
 -- A GROUP of the first packet, for each frame (OpenFlow 1.3.5, 5.6.1).
 use Rattle.std.specs.Prelude.{◌≡◌, ℕ, List, [], ◌∷◌, Option, None, Some, false, IsTrue, map, unwrap_or, ⊤}
-use Rattle.std.specs.Borrow.{Bor}
-use Rattle.std.specs.List.{list_all}
-use Rattle.std.specs.Option.{option_map}
-use Rattle.of_actions.specs.declared.action.Action.{Action}
-use Rattle.of_actions.specs.Supported.{is_supported}
+use Rattle.std.specs.{Borrow.Bor, List.list_all, Option.option_map}
+use Rattle.of_actions.specs.{declared.action.Action.Action, Supported.is_supported}
 use Rattle.of_machine.specs.TheWorld.{TheWorld}
-use Rattle.of_symbolic_run.specs.declared.state.SymbolicPacket.{SymbolicPacket}
-use Rattle.of_symbolic_run.specs.declared.state.SymbolicTask.{SymbolicTask}
-use Rattle.of_symbolic_run.specs.declared.state.Work.TheVariants.{RunSet}
+use Rattle.of_symbolic_run.specs.{declared.state.SymbolicPacket.SymbolicPacket, declared.state.SymbolicTask.SymbolicTask, declared.state.Work.TheVariants.RunSet}
 
 -- the actions of the buckets of a group of the world that run, if the group exists
 abbrev pub IsGroupOf : TheWorld → ℕ → Option (List (List Action)) → Type 0

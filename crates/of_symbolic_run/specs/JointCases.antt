@@ -1,7 +1,6 @@
 -- WHAT TWO STATES BECOME for the same parts of their frames (OpenFlow 1.3.5, 5.3).
 use Rattle.std.specs.Prelude.{List, map}
-use Rattle.of_symbolic_run.specs.declared.dividing.Case.{Case}
-use Rattle.of_symbolic_run.specs.declared.joint.JointCase.{JointCase}
+use Rattle.of_symbolic_run.specs.{declared.dividing.Case.Case, declared.joint.JointCase.JointCase}
 
 -- the case of each of them
 abbrev pub first_case : JointCase → Case

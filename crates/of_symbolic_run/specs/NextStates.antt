@@ -2,15 +2,11 @@
 use Rattle.std.specs.Prelude.{◌≡◌, ℕ, zero, suc, Bool, true, false, List, [], ◌∷◌, ◌++◌, drop, map, Option, Some, slice_get}
 use Rattle.std.specs.List.{Contains}
 use Rattle.of_rewrite.specs.declared.frame.Ttl.TheVariants.{Done, Expired}
-use Rattle.of_machine.specs.declared.data.Packet.{Packet}
-use Rattle.of_machine.specs.TheWorld.{TheWorld}
 use Rattle.of_machine.specs.Rows.{Row, Work, Lookup, dec_ttl_row, entering, lookup_row, row, task}
-use Rattle.of_symbolic_run.specs.declared.advance.Advance.{Advance}
-use Rattle.of_symbolic_run.specs.declared.advance.Advance.TheVariants as advances
-use Rattle.of_symbolic_run.specs.declared.dividing.Case.{Case}
-use Rattle.of_symbolic_run.specs.declared.state.SymbolicState.{SymbolicState}
-use Rattle.of_symbolic_run.specs.declared.state.SymbolicTask.{SymbolicTask}
+use Rattle.of_machine.specs.{declared.data.Packet.Packet, TheWorld.TheWorld}
 use Rattle.of_symbolic_run.specs.States.{answer_to_works, items_for, packet_for, task_for, work_for}
+use Rattle.of_symbolic_run.specs.{declared.advance.Advance.Advance, declared.dividing.Case.Case, declared.state.SymbolicState.SymbolicState, declared.state.SymbolicTask.SymbolicTask}
+use Rattle.of_symbolic_run.specs.declared.advance.Advance.TheVariants as advances
 
 -- the row of a packet, if its lookup finds the entry of this number, or none, and if its TTL expires, or not
 abbrev pub row_if : TheWorld → Advance → Option ℕ → Bool → Packet → List Work → Row

@@ -1,15 +1,10 @@
 -- THE PORT NUMBERS of a switch, and conditions on the numbers of no port that receives (OpenFlow 1.3.5, 4.1 and 7.2.1).
 use Rattle.std.specs.Prelude.{◌≡◌, ◌⊎◌, ℕ, ◌==◌, ◌&&◌, Bool, true, false, List, [], ◌∷◌, Option, Some, None, bit_and, find}
-use Rattle.std.specs.List.{Contains}
-use Rattle.std.specs.Option.{option_map}
-use Rattle.std.specs.Global.{Vec}
-use Rattle.of_layers.specs.declared.field.Field.{Field}
-use Rattle.of_layers.specs.declared.field.Field.TheVariants.{InPort}
-use Rattle.of_oxm.specs.declared.match_field.MatchField.{MatchField}
-use Rattle.of_oxm.specs.Relations.{bits_looked_at, matches_map}
+use Rattle.std.specs.{List.Contains, Option.option_map, Global.Vec}
+use Rattle.of_layers.specs.{declared.field.Field.Field, declared.field.Field.TheVariants.InPort}
+use Rattle.of_oxm.specs.{declared.match_field.MatchField.MatchField, Relations.bits_looked_at, Relations.matches_map}
 use Rattle.of_regions.specs.Conditions.{AreConditions}
-use Rattle.of_ports.specs.declared.port.Port.{Port}
-use Rattle.of_ports.specs.Ports.{may_receive, number_of_port, port_at}
+use Rattle.of_ports.specs.{declared.port.Port.Port, Ports.may_receive, Ports.number_of_port, Ports.port_at}
 
 -- there is a port of the number, and it receives
 pub record IsReceivingPort (ports : List Port) (number : ℕ) : Type 0 where

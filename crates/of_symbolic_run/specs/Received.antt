@@ -1,15 +1,9 @@
 -- WHICH FRAMES A SWITCH RECEIVES, and what the run of one emits (OpenFlow 1.3.5, 4.4 and 5.1).
 use Rattle.std.specs.Prelude.{◌≡◌, ℕ, ◌≤◌, ◌<◌, ◌^◌, true, List, [], ◌∷◌, length, Some}
 use Rattle.of_rewrite.specs.Frames.{IsFrame}
-use Rattle.of_ports.specs.declared.port.Port.{Port}
-use Rattle.of_ports.specs.Ports.{may_receive, port_at}
-use Rattle.of_machine.specs.declared.data.Item.{Item}
-use Rattle.of_machine.specs.TheWorld.{TheWorld}
-use Rattle.of_machine.specs.Rows.{Lookup, entering}
-use Rattle.of_machine.specs.Runs.{run_of}
-use Rattle.of_symbolic_run.specs.declared.frame_set.FrameSet.{FrameSet}
-use Rattle.of_symbolic_run.specs.FrameSets.{InFrames}
-use Rattle.of_symbolic_run.specs.PortNumbers.{IsReceivingPort}
+use Rattle.of_ports.specs.{declared.port.Port.Port, Ports.may_receive, Ports.port_at}
+use Rattle.of_machine.specs.{declared.data.Item.Item, TheWorld.TheWorld, Rows.Lookup, Rows.entering, Runs.run_of}
+use Rattle.of_symbolic_run.specs.{declared.frame_set.FrameSet.FrameSet, FrameSets.InFrames, PortNumbers.IsReceivingPort}
 
 -- a frame of 14 to 9,216 bytes that comes in by a port that receives: no other takes a step (4.4)
 pub record IsReceivedAt (w : TheWorld) (frame : List ℕ) (port : ℕ) : Type 0 where

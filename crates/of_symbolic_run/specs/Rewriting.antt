@@ -1,7 +1,7 @@
 -- ACTIONS THAT REWRITE FRAMES (OpenFlow 1.3.5, 5.12).
 use Rattle.std.specs.Prelude.{Bool, true, false}
-use Rattle.of_actions.specs.declared.action.Action.{Action}
 use Rattle.of_actions.specs.declared.action.Action.TheVariants.{Output, PushVlan, PopVlan, Group, SetNwTtl, SetField}
+use Rattle.of_actions.specs.declared.action.Action.{Action}
 
 -- all except OUTPUT and GROUP
 abbrev pub rewrites_frames : Action → Bool

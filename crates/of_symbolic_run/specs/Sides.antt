@@ -3,14 +3,9 @@ use Rattle.std.specs.Prelude.{◌≡◌, ◌<◌, ◌≤◌, ◌⊎◌, ℕ, Boo
 use Rattle.of_wire.specs.declared.limits.TheConstants.{TABLES}
 use Rattle.of_table.specs.Table.{FlowEntry}
 use Rattle.of_machine.specs.TheWorld.{TheWorld}
-use Rattle.of_symbolic_run.specs.declared.advance.Advance.TheVariants.{Lookup}
-use Rattle.of_symbolic_run.specs.declared.frame_set.FrameSet.{FrameSet}
-use Rattle.of_symbolic_run.specs.declared.state.SymbolicState.{SymbolicState}
-use Rattle.of_symbolic_run.specs.Cases.{AreCases, AsksUnknownOf, IsTableOf}
-use Rattle.of_symbolic_run.specs.NextStates.{AreNextStates, IsNextState}
-use Rattle.of_symbolic_run.specs.States.{IsAt, answer_to_tasks}
-use Rattle.of_symbolic_run.specs.declared.side.Side.{Side}
-use Rattle.of_symbolic_run.specs.declared.side.Side.TheVariants.{Advanced, Divided, Unknown}
+use Rattle.of_symbolic_run.specs.{declared.advance.Advance.TheVariants.Lookup, declared.frame_set.FrameSet.FrameSet, declared.state.SymbolicState.SymbolicState}
+use Rattle.of_symbolic_run.specs.{Cases.AreCases, Cases.AsksUnknownOf, Cases.IsTableOf, NextStates.AreNextStates, NextStates.IsNextState, States.IsAt, States.answer_to_tasks}
+use Rattle.of_symbolic_run.specs.{declared.side.Side.Side, declared.side.Side.TheVariants.Advanced, declared.side.Side.TheVariants.Divided, declared.side.Side.TheVariants.Unknown}
 
 -- IT IS NOT KNOWN WHAT A LOOKUP FINDS: the first packet is looked up, and this switch has no such table, or the match of an entry of the table asks what
 -- is not known of the packet, where inner tags are told or not

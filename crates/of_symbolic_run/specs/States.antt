@@ -5,21 +5,13 @@ use Rattle.of_actions.specs.declared.instruction.Instruction.TheVariants as inst
 use Rattle.of_action_set.specs.Sets.{with_actions}
 use Rattle.of_ports.specs.declared.port.Port.{Port}
 use Rattle.of_wire.specs.declared.reasons.PacketInReason.TheVariants as reasons
-use Rattle.of_machine.specs.declared.data.Packet.{Packet}
-use Rattle.of_machine.specs.declared.data.Item.{Item}
-use Rattle.of_machine.specs.declared.data.Step.{Step}
-use Rattle.of_machine.specs.declared.data.Step.TheVariants as step
-use Rattle.of_machine.specs.TheWorld.{TheWorld}
-use Rattle.of_machine.specs.Rows as rows
 use Rattle.of_machine.specs.Rows.{Row, Task, task, row, emission, entering, packet_in_emitted}
-use Rattle.of_machine.specs.Runs.{after, starting}
+use Rattle.of_machine.specs.{declared.data.Packet.Packet, declared.data.Item.Item, declared.data.Step.Step, TheWorld.TheWorld, Runs.after, Runs.starting}
+use Rattle.of_machine.specs.declared.data.Step.TheVariants as step
+use Rattle.of_machine.specs.Rows as rows
 use Rattle.of_symbolic.specs.Actions.{frame_of_actions}
-use Rattle.of_symbolic_run.specs.declared.state.SymbolicPacket.{SymbolicPacket}
-use Rattle.of_symbolic_run.specs.declared.state.SymbolicTask.{SymbolicTask}
-use Rattle.of_symbolic_run.specs.declared.state.SymbolicState.{SymbolicState}
-use Rattle.of_symbolic_run.specs.declared.state.Emission.{Emission}
-use Rattle.of_symbolic_run.specs.declared.state.Emission.TheVariants.{Output, InvalidTtl}
-use Rattle.of_symbolic_run.specs.declared.state.Work.{Work}
+use Rattle.of_symbolic_run.specs.{declared.state.SymbolicPacket.SymbolicPacket, declared.state.SymbolicTask.SymbolicTask, declared.state.SymbolicState.SymbolicState}
+use Rattle.of_symbolic_run.specs.{declared.state.Emission.Emission, declared.state.Emission.TheVariants.Output, declared.state.Emission.TheVariants.InvalidTtl, declared.state.Work.Work}
 use Rattle.of_symbolic_run.specs.declared.state.Work.TheVariants.{Lookup, Do, RunSet, Act}
 use Rattle.of_symbolic_run.specs.declared.advance.Advance.{Advance}
 use Rattle.of_symbolic_run.specs.declared.advance.Advance.TheVariants as advances

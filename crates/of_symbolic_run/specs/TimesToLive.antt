@@ -3,10 +3,8 @@ use Rattle.std.specs.Prelude.{ℕ, ◌<◌, ⊤, ◌+◌, ◌-◌, ◌%◌, ◌^
 use Rattle.std.specs.List.{fold}
 use Rattle.of_layers.specs.Reading.{layers_of}
 use Rattle.of_rewrite.specs.TimeToLive.{ttl_of}
-use Rattle.of_actions.specs.declared.action.Action.{Action}
-use Rattle.of_actions.specs.declared.action.Action.TheVariants.{SetNwTtl, DecNwTtl}
-use Rattle.of_symbolic_run.specs.declared.known_ttl.KnownTtl.{KnownTtl}
-use Rattle.of_symbolic_run.specs.declared.known_ttl.KnownTtl.TheVariants.{Less, Fixed}
+use Rattle.of_actions.specs.{declared.action.Action.Action, declared.action.Action.TheVariants.SetNwTtl, declared.action.Action.TheVariants.DecNwTtl}
+use Rattle.of_symbolic_run.specs.{declared.known_ttl.KnownTtl.KnownTtl, declared.known_ttl.KnownTtl.TheVariants.Less, declared.known_ttl.KnownTtl.TheVariants.Fixed}
 
 -- less by n, but not below 1; 0 stays 0
 abbrev pub less : ℕ → ℕ → ℕ

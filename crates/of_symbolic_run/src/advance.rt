@@ -2,9 +2,8 @@
 ghost use Rattle.std.specs.Prelude.{◌≡◌, ◌<◌, ℕ, Some, List, IfOk, IsTrue, OnOk, length, slice_get};
 ghost use Rattle.of_actions.specs.InstructionLists.{is_served_body};
 ghost use Rattle.of_machine.specs.TheWorld.{TheWorld};
-ghost use Rattle.of_symbolic_run.specs.declared.state.Emission.{Emission as AnEmission};
-ghost use Rattle.of_symbolic_run.specs.declared.state.Work.TheVariants.{Act, Do};
 ghost use Rattle.of_symbolic_run.specs.States.{Advances, IsAt, TakesRow, TellsAdvance, WorkEnds, answer_to, answer_to_tasks, answer_to_works, work_line, with_step_line};
+ghost use Rattle.of_symbolic_run.specs.{declared.state.Emission.Emission as AnEmission, declared.state.Work.TheVariants.Act, declared.state.Work.TheVariants.Do};
 
 use crate::served::ServedAction;
 use crate::state::{Emission, SymbolicState, SymbolicTask, Work};

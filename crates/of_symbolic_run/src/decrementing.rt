@@ -2,11 +2,8 @@
 ghost use Rattle.std.specs.Prelude.{◌≡◌, true, false, IfOk, OnOk, length, ◌<◌};
 ghost use Rattle.of_actions.specs.declared.action.Action.TheVariants.{DecNwTtl as Decrement};
 ghost use Rattle.of_machine.specs.TheWorld.{TheWorld};
-ghost use Rattle.of_symbolic_run.specs.declared.advance.Advance.TheVariants.{DecNwTtl};
-ghost use Rattle.of_symbolic_run.specs.Cases.{AreCases};
-ghost use Rattle.of_symbolic_run.specs.Decrementing.{AddsExpired, IsDecremented, IsLimit, IsOneMoreRewrite};
-ghost use Rattle.of_symbolic_run.specs.NextStates.{AreNextStates};
-ghost use Rattle.of_symbolic_run.specs.States.{answer_to_tasks};
+ghost use Rattle.of_symbolic_run.specs.{declared.advance.Advance.TheVariants.DecNwTtl, Cases.AreCases};
+ghost use Rattle.of_symbolic_run.specs.{Decrementing.AddsExpired, Decrementing.IsDecremented, Decrementing.IsLimit, Decrementing.IsOneMoreRewrite, NextStates.AreNextStates, States.answer_to_tasks};
 ghost use Rattle.of_symbolic_run.specs.TimesToLive.{expires};
 
 use crate::dividing::Case;

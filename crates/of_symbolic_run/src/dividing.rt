@@ -3,12 +3,9 @@ ghost use Rattle.std.specs.Prelude.{◌≡◌, filter, map, IfOk, IfSome, IfNone
 ghost use Rattle.std.specs.List.{Contains};
 ghost use Rattle.of_machine.specs.TheWorld.{TheWorld};
 ghost use Rattle.of_table.specs.Entries.{flows_of};
-ghost use Rattle.of_symbolic.specs.Branches.{flows_listed};
-ghost use Rattle.of_symbolic.specs.declared.branching.Branch.{Branch as ABranch};
-ghost use Rattle.of_symbolic_run.specs.declared.advance.Advance.TheVariants.{Lookup};
+ghost use Rattle.of_symbolic.specs.{Branches.flows_listed, declared.branching.Branch.Branch as ABranch};
 ghost use Rattle.of_symbolic_run.specs.Cases.{AreCases, AreCasesOf, AsksUnknownOf, IsBranchOf, IsCaseOf, IsTableOf, flow_named, found_flow, is_listed};
-ghost use Rattle.of_symbolic_run.specs.NextStates.{AreNextStates};
-ghost use Rattle.of_symbolic_run.specs.States.{answer_to_tasks};
+ghost use Rattle.of_symbolic_run.specs.{declared.advance.Advance.TheVariants.Lookup, NextStates.AreNextStates, States.answer_to_tasks};
 
 use crate::frame_set::FrameSet;
 use crate::state::SymbolicState;

@@ -2,9 +2,8 @@
 ghost use Rattle.std.specs.Prelude.{◌≡◌, ◌<◌, Some, IsTrue, IfOk, OnOk, length, map, slice_get};
 ghost use Rattle.of_actions.specs.InstructionLists.{are_kept};
 ghost use Rattle.of_machine.specs.Rows.{works};
-ghost use Rattle.of_symbolic_run.specs.declared.advance.Advance.TheVariants.{Lookup};
 ghost use Rattle.of_symbolic_run.specs.Cases.{IsAtEntry, IsEntered, found_flow, goes_to_table, lookup_line};
-ghost use Rattle.of_symbolic_run.specs.States.{answer_to_tasks, work_for};
+ghost use Rattle.of_symbolic_run.specs.{declared.advance.Advance.TheVariants.Lookup, States.answer_to_tasks, States.work_for};
 
 use crate::served::ServedInstruction;
 use crate::state::{SymbolicState, SymbolicTask, Work};

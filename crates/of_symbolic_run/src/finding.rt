@@ -1,14 +1,11 @@
 //! A search for a frame of a set.
 ghost use Rattle.std.specs.Prelude.{◌≡◌, ◌≤◌, ◌<◌, ◌+◌, ◌%◌, ◌∷◌, [], ℕ, IfOk, OnOk, length, unwrap_or};
-ghost use Rattle.of_layers.specs.Reading.{layers_of};
-ghost use Rattle.of_layers.specs.declared.field.Field.TheVariants.{VlanPcp, VlanVid};
+ghost use Rattle.of_layers.specs.{Reading.layers_of, declared.field.Field.TheVariants.VlanPcp, declared.field.Field.TheVariants.VlanVid};
 ghost use Rattle.of_headers.specs.FieldMap.{field_map};
 ghost use Rattle.of_rewrite.specs.Frames.{IsFrame};
 ghost use Rattle.of_actions.specs.declared.action.Action.TheVariants.{SetField};
 ghost use Rattle.of_regions.specs.Witness.{IsReceived, IsShortFrame, fields_in};
-ghost use Rattle.of_symbolic.specs.Actions.{frame_of_actions};
-ghost use Rattle.of_symbolic.specs.InnerTags.{description_of};
-ghost use Rattle.of_symbolic.specs.Parts.{InPart};
+ghost use Rattle.of_symbolic.specs.{Actions.frame_of_actions, InnerTags.description_of, Parts.InPart};
 ghost use Rattle.of_symbolic_run.specs.FrameSets.{FindsFrame, HasTtlIn, actions_put_below};
 
 use crate::frame_set::FrameSet;

@@ -1,12 +1,8 @@
 //! The buckets of a group that run.
 ghost use Rattle.std.specs.Prelude.{◌≡◌, ℕ, List, [], IfOk, OnOk, map, unwrap_or};
-ghost use Rattle.of_datapath.specs.Datapath.{world_of};
-ghost use Rattle.of_datapath.specs.Numbers.{forwarding_of};
+ghost use Rattle.of_datapath.specs.{Datapath.world_of, Numbers.forwarding_of};
 ghost use Rattle.of_machine.specs.Sound.{AllBuckets};
-ghost use Rattle.of_symbolic_run.specs.declared.advance.Advance.TheVariants.{Group as WantsGroup};
-ghost use Rattle.of_symbolic_run.specs.Groups.{AreServedLists, lists_of};
-ghost use Rattle.of_symbolic_run.specs.NextStates.{IsNextState};
-ghost use Rattle.of_symbolic_run.specs.States.{answer_to_tasks};
+ghost use Rattle.of_symbolic_run.specs.{declared.advance.Advance.TheVariants.Group as WantsGroup, Groups.AreServedLists, Groups.lists_of, NextStates.IsNextState, States.answer_to_tasks};
 
 use crate::{SymbolicState, run_group};
 use of_actions::Action;

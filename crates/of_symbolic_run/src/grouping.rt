@@ -3,10 +3,8 @@ ghost use Rattle.std.specs.Prelude.{◌≡◌, List, IfOk, IfSome, IsTrue, OnOk,
 ghost use Rattle.std.specs.List.{list_all};
 ghost use Rattle.of_actions.specs.Supported.{is_supported};
 ghost use Rattle.of_machine.specs.TheWorld.{TheWorld};
-ghost use Rattle.of_symbolic_run.specs.declared.advance.Advance.TheVariants.{Group};
 ghost use Rattle.of_symbolic_run.specs.Groups.{AreBucketTasks, AreGroupTasks, AreServedLists, IsBucketTask, IsGroupOf, bucket_lists, lists_of};
-ghost use Rattle.of_symbolic_run.specs.NextStates.{IsNextState};
-ghost use Rattle.of_symbolic_run.specs.States.{answer_to_tasks};
+ghost use Rattle.of_symbolic_run.specs.{declared.advance.Advance.TheVariants.Group, NextStates.IsNextState, States.answer_to_tasks};
 
 use crate::state::{SymbolicPacket, SymbolicState, SymbolicTask, Work};
 use crate::written::Written;

@@ -1,15 +1,11 @@
 //! What a lookup of the same packet makes of two states.
-ghost use Rattle.std.specs.Prelude.{◌≡◌, IfNone, IfOk, IfSome};
-ghost use Rattle.std.specs.List.{Contains};
+ghost use Rattle.std.specs.{Prelude.◌≡◌, Prelude.IfNone, Prelude.IfOk, Prelude.IfSome, List.Contains};
 ghost use Rattle.of_machine.specs.TheWorld.{TheWorld};
 ghost use Rattle.of_table.specs.Entries.{flows_of};
-ghost use Rattle.of_symbolic.specs.Branches.{flows_listed};
-ghost use Rattle.of_symbolic.specs.declared.branching.Branch.{Branch as ABranch};
-ghost use Rattle.of_symbolic_run.specs.declared.advance.Advance.TheVariants.{Lookup};
+ghost use Rattle.of_symbolic.specs.{Branches.flows_listed, declared.branching.Branch.Branch as ABranch};
 ghost use Rattle.of_symbolic_run.specs.Cases.{AreCases, AreCasesOf, AsksUnknownOf, IsBranchOf, IsCaseOf, IsTableOf};
-ghost use Rattle.of_symbolic_run.specs.JointCases.{first_case, first_cases, second_case, second_cases};
-ghost use Rattle.of_symbolic_run.specs.NextStates.{AreNextStates};
-ghost use Rattle.of_symbolic_run.specs.States.{AreTaskCopies, answer_to_tasks};
+ghost use Rattle.of_symbolic_run.specs.{declared.advance.Advance.TheVariants.Lookup, JointCases.first_case, JointCases.first_cases, JointCases.second_case, JointCases.second_cases};
+ghost use Rattle.of_symbolic_run.specs.{NextStates.AreNextStates, States.AreTaskCopies, States.answer_to_tasks};
 
 use crate::dividing::{entry_named, keep_listed, listed_entries};
 use crate::frame_set::FrameSet;

@@ -1,11 +1,7 @@
 //! What a state says about runs.
 ghost use Rattle.std.specs.Prelude.{◌≡◌, ◌∷◌, ℕ, List, []};
-ghost use Rattle.of_machine.specs.TheWorld.{TheWorld};
-ghost use Rattle.of_machine.specs.Sound.{IsSound};
-ghost use Rattle.of_machine.specs.Rows.{Lookup, entering};
-ghost use Rattle.of_machine.specs.Runs.{run_of};
-ghost use Rattle.of_symbolic_run.specs.declared.state.SymbolicState.{SymbolicState};
-ghost use Rattle.of_symbolic_run.specs.States.{IsAt, items_for};
+ghost use Rattle.of_machine.specs.{TheWorld.TheWorld, Sound.IsSound, Rows.Lookup, Rows.entering, Runs.run_of};
+ghost use Rattle.of_symbolic_run.specs.{declared.state.SymbolicState.SymbolicState, States.IsAt, States.items_for};
 
 /// A state without packets gives what the run of each of its frames gives.
 pub fn ended_states_give_runs()

@@ -1,6 +1,5 @@
 //! Conditions about METADATA.
-ghost use Rattle.std.specs.Prelude.{◌≡◌};
-ghost use Rattle.std.specs.List.{list_any};
+ghost use Rattle.std.specs.{Prelude.◌≡◌, List.list_any};
 ghost use Rattle.of_symbolic_run.specs.FrameSets.{is_about_metadata};
 
 use of_headers::Field;

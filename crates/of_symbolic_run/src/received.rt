@@ -1,8 +1,7 @@
 //! The first state of a run.
 ghost use Rattle.std.specs.Prelude.{ℕ, List, IfOk};
 ghost use Rattle.of_machine.specs.TheWorld.{TheWorld};
-ghost use Rattle.of_symbolic_run.specs.NextStates.{IsFirstState};
-ghost use Rattle.of_symbolic_run.specs.States.{IsAt};
+ghost use Rattle.of_symbolic_run.specs.{NextStates.IsFirstState, States.IsAt};
 
 use crate::rewrites::Rewrites;
 use crate::state::{SymbolicPacket, SymbolicState, SymbolicTask, Work};

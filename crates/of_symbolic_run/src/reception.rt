@@ -1,9 +1,7 @@
 //! The frames that a switch receives.
 ghost use Rattle.std.specs.Prelude.{◌≡◌, ℕ, List, IfOk};
-ghost use Rattle.of_datapath.specs.Datapath.{world_of};
-ghost use Rattle.of_datapath.specs.Numbers.{forwarding_of};
-ghost use Rattle.of_symbolic_run.specs.FrameSets.{InFrames};
-ghost use Rattle.of_symbolic_run.specs.Received.{AreReceived, IsReceivedAt};
+ghost use Rattle.of_datapath.specs.{Datapath.world_of, Numbers.forwarding_of};
+ghost use Rattle.of_symbolic_run.specs.{FrameSets.InFrames, Received.AreReceived, Received.IsReceivedAt};
 
 use crate::FrameSet;
 use crate::ports::absent_ports;

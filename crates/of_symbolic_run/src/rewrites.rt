@@ -1,7 +1,6 @@
 //! Rewriting actions that were applied to a frame.
 ghost use Rattle.std.specs.Prelude.{◌≡◌, ◌++◌, ◌∷◌, [], IsTrue, IfOk, OnOk, OnErr};
-ghost use Rattle.of_symbolic.specs.Actions.{AreRewriting};
-ghost use Rattle.of_symbolic.specs.Overlays.{IsOverlay};
+ghost use Rattle.of_symbolic.specs.{Actions.AreRewriting, Overlays.IsOverlay};
 ghost use Rattle.of_symbolic_run.specs.Rewriting.{rewrites_frames};
 
 use crate::served::ServedAction;

@@ -1,7 +1,6 @@
 //! Supported actions and instructions.
 ghost use Rattle.std.specs.Prelude.{◌≡◌, false, IsTrue};
-ghost use Rattle.of_actions.specs.InstructionLists.{is_served_body};
-ghost use Rattle.of_actions.specs.Supported.{is_supported};
+ghost use Rattle.of_actions.specs.{InstructionLists.is_served_body, Supported.is_supported};
 
 use of_actions::{Action, Instruction};
 use std::marker::Model;
@@ -14,8 +13,7 @@ pub struct ServedAction {
 
 impl Model for ServedAction {
     ghost use Rattle.std.specs.Prelude.{IsTrue, false};
-    ghost use Rattle.of_actions.specs.declared.action.Action.{Action};
-    ghost use Rattle.of_actions.specs.Supported.{is_supported};
+    ghost use Rattle.of_actions.specs.{declared.action.Action.Action, Supported.is_supported};
 
     ghost Value = { Action };
 
@@ -50,8 +48,7 @@ pub struct ServedInstruction<'a> {
 
 impl<'a> Model for ServedInstruction<'a> {
     ghost use Rattle.std.specs.Prelude.{IsTrue};
-    ghost use Rattle.of_actions.specs.declared.instruction.Instruction.{Instruction};
-    ghost use Rattle.of_actions.specs.InstructionLists.{is_served_body};
+    ghost use Rattle.of_actions.specs.{declared.instruction.Instruction.Instruction, InstructionLists.is_served_body};
 
     ghost Value = { Instruction };
 

@@ -1,10 +1,7 @@
 //! A step of a run, for all frames of a set.
 ghost use Rattle.std.specs.Prelude.{◌≡◌, IfOk};
-ghost use Rattle.of_datapath.specs.Datapath.{world_of};
-ghost use Rattle.of_datapath.specs.Numbers.{forwarding_of};
-ghost use Rattle.of_symbolic_run.specs.Sides.{SideIs};
-ghost use Rattle.of_symbolic_run.specs.States.{answer_to_tasks};
-ghost use Rattle.of_symbolic_run.specs.declared.advance.Advance.TheVariants.{Lookup as WantsLookup};
+ghost use Rattle.of_datapath.specs.{Datapath.world_of, Numbers.forwarding_of};
+ghost use Rattle.of_symbolic_run.specs.{Sides.SideIs, States.answer_to_tasks, declared.advance.Advance.TheVariants.Lookup as WantsLookup};
 
 use crate::grouped::step_group;
 use crate::{Advance, Case, FrameSet, SymbolicState, advance_state, divide_by_ttl, look_up};

@@ -1,14 +1,11 @@
 //! What each kind of work does to a packet, for each frame.
 ghost use Rattle.std.specs.Prelude.{◌≡◌, ◌++◌, Some, List, false, drop, length, map, ◌<◌, IfOk, OnOk, IsTrue, slice_get};
 ghost use Rattle.std.specs.List.{list_all};
-ghost use Rattle.of_actions.specs.Supported.{is_supported};
-ghost use Rattle.of_actions.specs.declared.action.Action.TheVariants.{Output};
 ghost use Rattle.of_actions.specs.declared.instruction.Instruction.TheVariants.{Apply, Clear, Goto, Metadata, Write};
+ghost use Rattle.of_actions.specs.{Supported.is_supported, declared.action.Action.TheVariants.Output};
 ghost use Rattle.of_machine.specs.Rows.{acts};
-ghost use Rattle.of_symbolic_run.specs.declared.advance.Advance.TheVariants.{Done};
-ghost use Rattle.of_symbolic_run.specs.declared.state.Emission.{Emission as AnEmission};
-ghost use Rattle.of_symbolic_run.specs.declared.state.Work.TheVariants.{Act, Do, RunSet};
-ghost use Rattle.of_symbolic_run.specs.Rewriting.{rewrites_alike};
+ghost use Rattle.of_symbolic_run.specs.{declared.advance.Advance.TheVariants.Done, declared.state.Emission.Emission as AnEmission};
+ghost use Rattle.of_symbolic_run.specs.{declared.state.Work.TheVariants.Act, declared.state.Work.TheVariants.Do, declared.state.Work.TheVariants.RunSet, Rewriting.rewrites_alike};
 ghost use Rattle.of_symbolic_run.specs.States.{TakesRow, answer_to, work_for};
 
 use crate::served::ServedAction;

@@ -1,8 +1,7 @@
 //! The frames of a set for which DEC_NW_TTL expires, and the others.
 ghost use Rattle.std.specs.Prelude.{◌≡◌, ◌≤◌, ◌<◌, ◌+◌, Some, IfOk, not};
 ghost use Rattle.of_layers.specs.declared.field.Field.TheVariants.{IpDscp};
-ghost use Rattle.of_symbolic_run.specs.FrameSets.{AreFramesOrNone, AreFramesThat};
-ghost use Rattle.of_symbolic_run.specs.TimesToLive.{expires, higher_of, lower_of};
+ghost use Rattle.of_symbolic_run.specs.{FrameSets.AreFramesOrNone, FrameSets.AreFramesThat, TimesToLive.expires, TimesToLive.higher_of, TimesToLive.lower_of};
 
 use crate::frame_set::FrameSet;
 use of_headers::Field;

@@ -14,10 +14,8 @@ pub struct Written {
 }
 
 impl Model for Written {
-    ghost use Rattle.std.specs.Prelude.{List, IsTrue, false};
-    ghost use Rattle.std.specs.List.{list_all};
-    ghost use Rattle.of_actions.specs.declared.action.Action.{Action};
-    ghost use Rattle.of_actions.specs.Supported.{is_supported};
+    ghost use Rattle.std.specs.{Prelude.List, Prelude.IsTrue, Prelude.false, List.list_all};
+    ghost use Rattle.of_actions.specs.{declared.action.Action.Action, Supported.is_supported};
 
     ghost Value = { List Action };
 

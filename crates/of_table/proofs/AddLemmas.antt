@@ -1,29 +1,18 @@
 -- Entries after a flow is added.
 use Rattle.std.proofs.Common.{◌≡◌, ℕ, ◌<◌, ◌≤◌, suc, true, false, not, List, [], ◌∷◌, ◌++◌, length, take, drop, get_or, Some, None, refl, sym, ap, ◌∙◌, arith}
 use Rattle.std.specs.Prelude.{position, map, filter, remove, nat_le, slice_get}
-use Rattle.std.specs.List.{list_any}
-use Rattle.std.specs.Option.{option_map}
-use Rattle.std.specs.Cmp.Lexicographic.{pointwise}
-use Rattle.std.proofs.Math.ListN.{get_or-map}
-use Rattle.std.proofs.lemmas.Bool.Decides.{nat_tests}
-use Rattle.std.proofs.lemmas.List.{map-append, take-map, drop-map, length-map}
-use Rattle.std.proofs.lemmas.List.Quantifiers.{position-Some}
-use Rattle.std.proofs.lemmas.List.Folds.{find_at}
+use Rattle.std.{specs.List.list_any, specs.Option.option_map, specs.Cmp.Lexicographic.pointwise, proofs.Math.ListN.get_or-map, proofs.lemmas.Bool.Decides.nat_tests}
+use Rattle.std.proofs.{lemmas.List.map-append, lemmas.List.take-map, lemmas.List.drop-map, lemmas.List.length-map, lemmas.List.Quantifiers.position-Some, lemmas.List.Folds.find_at}
 use Rattle.std.proofs.lemmas.Option.{slice_get-get_or}
 use Rattle.of_wire.specs.Numbered.{is_used, is_distinct, without, moved_to_end}
 use Rattle.of_wire.proofs.NumberedLemmas as low
-use Rattle.of_oxm.specs.SameMatch.{is_same_match}
-use Rattle.of_oxm.specs.declared.match_field.MatchField.{MatchField}
+use Rattle.of_oxm.{specs.SameMatch.is_same_match, specs.declared.match_field.MatchField.MatchField, proofs.Same.same_match, proofs.Same.same_fields}
 use Rattle.of_oxm.specs.contracts.match_field.MatchFieldPartialEq.TheImpl as the_match_field
-use Rattle.of_oxm.proofs.Same.{same_match, same_fields}
 use Rattle.of_classifier.specs.Rows.{row_number}
 use Rattle.of_table.proofs.PlaceLemmas.{any-map, find-map, filter-map, find_none, filter_others, position_some, position_some-any, position_none}
-use Rattle.of_table.proofs.NumberLemmas.{used-rows}
 use Rattle.of_table.specs.Table.{FlowEntry, is_same, is_overlapped, add_flow_fault, kept_flow, with_flow, added}
-use Rattle.of_table.specs.declared.table_fault.TableFault.TheVariants.{Full}
 use Rattle.of_table.specs.Entries.{Numbered, entry_of, numbered_entry, flows_of, classifier_row, rows_of, same_entry, IsNumberFor, added_entries}
-use Rattle.of_table.specs.declared.entry.Entry.{Entry}
-use Rattle.of_table.specs.declared.flow.Flow.{Flow}
+use Rattle.of_table.{specs.declared.table_fault.TableFault.TheVariants.Full, specs.declared.entry.Entry.Entry, specs.declared.flow.Flow.Flow, proofs.NumberLemmas.used-rows}
 
 pub same_is : (xs ys : List MatchField) → is_same_match xs ys ≡ true → xs ≡ ys
 same_is xs ys h =

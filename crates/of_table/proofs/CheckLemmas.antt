@@ -1,22 +1,13 @@
 -- What goes with a match goes with each match that it covers.
 use Rattle.std.proofs.Common.{◌≡◌, ℕ, ltb, Bool, true, false, ◌||◌, List, [], ◌∷◌, Option, Some, None, refl, sym, subst, arith}
 use Rattle.std.proofs.lemmas.Bool.Decides.{nat_tests}
-use Rattle.of_layers.specs.declared.field.Prerequisite.{Prerequisite}
-use Rattle.of_layers.specs.Fields.{number_of, prerequisite_of}
-use Rattle.of_oxm.specs.declared.match_field.MatchField.{MatchField}
-use Rattle.of_oxm.specs.Prerequisites.{is_met}
-use Rattle.of_oxm.specs.SameMatch.{is_same_match}
-use Rattle.of_oxm.specs.NormalForm.{IsMatch}
-use Rattle.of_oxm.proofs.Covered.{covered_has_prerequisites}
+use Rattle.of_layers.specs.{declared.field.Prerequisite.Prerequisite, Fields.number_of, Fields.prerequisite_of}
+use Rattle.of_oxm.{specs.declared.match_field.MatchField.MatchField, specs.Prerequisites.is_met, specs.SameMatch.is_same_match, specs.NormalForm.IsMatch, proofs.Covered.covered_has_prerequisites}
 use Rattle.of_oxm.proofs.Related.{and_true}
-use Rattle.of_actions.specs.declared.action.Action.{Action}
-use Rattle.of_actions.specs.declared.action.Action.TheVariants.{SetField}
-use Rattle.of_actions.specs.declared.instruction.Instruction.{Instruction}
 use Rattle.of_actions.specs.declared.instruction.Instruction.TheVariants.{Apply, Clear, Write, Metadata, Goto}
+use Rattle.of_actions.specs.{declared.action.Action.Action, declared.action.Action.TheVariants.SetField, declared.instruction.Instruction.Instruction}
 use Rattle.of_actions.specs.FlowCheck.{is_prerequisite_met, are_needs_met, has_prerequisites_met, all_go_with}
-use Rattle.of_table.specs.declared.selection.Selector.{Selector}
-use Rattle.of_table.specs.Table.{FlowEntry}
-use Rattle.of_table.specs.Selecting.{is_meant_by, is_meant, has_cookie, modifies}
+use Rattle.of_table.specs.{declared.selection.Selector.Selector, Table.FlowEntry, Selecting.is_meant_by, Selecting.is_meant, Selecting.has_cookie, Selecting.modifies}
 use Rattle.of_table.proofs.AddLemmas.{same_is}
 
 or_more : (a b c : Bool) → (b ≡ true → c ≡ true) → (a || b) ≡ true → (a || c) ≡ true

@@ -1,24 +1,13 @@
 -- Copies of flow tables.
 use Rattle.std.proofs.Common.{◌≡◌, ◌≢◌, ℕ, zero, suc, ◌+◌, ◌<◌, Bool, false, cond, List, [], ◌∷◌, Some, length, get_or, set, refl, sym, ap, ◌∙◌, arith}
-use Rattle.std.specs.Prelude.{map, slice_index_or}
-use Rattle.std.specs.List.{list_all}
-use Rattle.std.proofs.Math.ListN.{get_or-map}
-use Rattle.std.proofs.lemmas.Bool.Decides.{nat_tests}
-use Rattle.std.proofs.lemmas.List.{map-set, set-set, set-get_or}
-use Rattle.std.proofs.lemmas.List.Folds.{list_all-map}
+use Rattle.std.{specs.Prelude.map, specs.Prelude.slice_index_or, specs.List.list_all, proofs.Math.ListN.get_or-map, proofs.lemmas.Bool.Decides.nat_tests}
+use Rattle.std.proofs.{lemmas.List.map-set, lemmas.List.set-set, lemmas.List.set-get_or, lemmas.List.Folds.list_all-map}
 use Rattle.of_actions.specs.declared.instruction.Instruction.{Instruction}
-use Rattle.of_table.specs.declared.entry.Entry.{Entry}
-use Rattle.of_table.specs.declared.selection.Selector.{Selector}
-use Rattle.of_table.specs.declared.selection.Cause.TheVariants.{Moment}
-use Rattle.of_table.specs.Table.{Table, empty_table}
 use Rattle.of_table.specs.Entries.{Numbered, no_entries, table_of, entry_of, flows_of}
-use Rattle.of_table.specs.Selecting.{stays, modified}
 use Rattle.of_table.specs.Tables.{Tables, NumberedTables, table_at, with_table, each_from, is_in, modified_table, modified_in, tables_of}
-use Rattle.of_table.specs.Copied.{NumberedCopy, swapped_in, swapped_out}
-use Rattle.of_table.specs.Deadlines.{NoneOver}
-use Rattle.of_table.specs.Sound.{AreSoundEntries, AllSound}
-use Rattle.of_table.proofs.Soundness.{sound_everywhere}
-use Rattle.of_table.proofs.TablesLemmas.{table_is}
+use Rattle.of_table.specs.{declared.entry.Entry.Entry, declared.selection.Selector.Selector, declared.selection.Cause.TheVariants.Moment, Table.Table, Table.empty_table}
+use Rattle.of_table.specs.{Selecting.stays, Selecting.modified, Copied.NumberedCopy, Copied.swapped_in, Copied.swapped_out, Deadlines.NoneOver, Sound.AreSoundEntries, Sound.AllSound}
+use Rattle.of_table.proofs.{Soundness.sound_everywhere, TablesLemmas.table_is}
 
 -- ---- when entries expire is in their flows and times, whatever their numbers
 

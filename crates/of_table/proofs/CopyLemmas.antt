@@ -1,11 +1,8 @@
 -- Lists of copies.
 use Rattle.std.proofs.Common.{◌≡◌, ℕ, zero, suc, ◌+◌, ◌-◌, ◌<◌, ◌≤◌, List, [], ◌∷◌, ◌++◌, get_or, take, cond, length, refl, ap, ◌∙◌, arith}
-use Rattle.std.specs.Prelude.{replicate}
-use Rattle.std.proofs.lemmas.List.Sums.{sum_by_more, sum_by-take-le}
+use Rattle.std.{specs.Prelude.replicate, proofs.lemmas.List.Sums.sum_by_more, proofs.lemmas.List.Sums.sum_by-take-le}
 use Rattle.of_wire.proofs.Changing.{changed_to}
-use Rattle.of_table.specs.declared.selection.Selector.{Selector}
-use Rattle.of_table.specs.declared.entry.Entry.{Entry}
-use Rattle.of_table.specs.Copies.{Supply, is_modified, wanted}
+use Rattle.of_table.specs.{declared.selection.Selector.Selector, declared.entry.Entry.Entry, Copies.Supply, Copies.is_modified, Copies.wanted}
 
 pub replicate_more : {X : Type 0} (n : ℕ) (x : X) → replicate n x ++ x ∷ [] ≡ replicate (suc n) x
 replicate_more zero x = refl

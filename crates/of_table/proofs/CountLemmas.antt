@@ -1,11 +1,8 @@
 -- Entries after a packet is counted.
 use Rattle.std.proofs.Common.{◌≡◌, ℕ, ◌<◌, ◌≤◌, zero, suc, false, eqb, ltb, List, [], ◌∷◌, length, get_or, set, refl, sym, ◌∙◌, ap, arith}
-use Rattle.std.proofs.lemmas.Bool.{ltb-false}
-use Rattle.std.proofs.lemmas.List.{length-map}
-use Rattle.of_table.proofs.PlaceLemmas.{any-place}
-use Rattle.of_table.specs.Table.{FlowEntry, counted_entry, counted_at}
+use Rattle.std.proofs.{lemmas.Bool.ltb-false, lemmas.List.length-map}
 use Rattle.of_table.specs.Entries.{entry_of, flows_of, entry_number, entry_numbers, place_of, is_entry_there}
-use Rattle.of_table.specs.declared.entry.Entry.{Entry}
+use Rattle.of_table.{specs.Table.FlowEntry, specs.Table.counted_entry, specs.Table.counted_at, specs.declared.entry.Entry.Entry, proofs.PlaceLemmas.any-place}
 
 pub counted-set : (now bytes : ℕ) (es : List Entry) (k : ℕ) (e d : Entry) → k < length es → entry_of e ≡ counted_entry now bytes (entry_of (get_or es k d)) → flows_of (set es k e) ≡ counted_at now k bytes (flows_of es)
 counted-set now bytes [] k e d lt is = absurd (omega arith)

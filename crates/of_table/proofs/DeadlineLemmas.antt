@@ -1,19 +1,11 @@
 -- Before which moment no entry expires, as entries are added, change and are removed.
 use Rattle.std.proofs.Common.{◌≡◌, ℕ, ◌+◌, ◌<◌, Bool, true, false, not, cond, ◌&&◌, min, List, [], ◌∷◌, ◌++◌, Option, Some, None, set, refl, ap, ◌∙◌, arith}
-use Rattle.std.specs.Prelude.{filter, is_none}
-use Rattle.std.proofs.lemmas.List.Folds.{list_all-append}
+use Rattle.std.{specs.Prelude.filter, specs.Prelude.is_none, specs.Option.option_map, specs.Option.option_to_list, proofs.lemmas.List.Folds.list_all-append}
 use Rattle.of_actions.specs.declared.instruction.Instruction.{Instruction}
-use Rattle.of_table.specs.declared.entry.Entry.{Entry}
-use Rattle.of_table.specs.declared.flow.Flow.{Flow}
-use Rattle.of_table.specs.declared.selection.Selector.{Selector}
-use Rattle.of_table.specs.declared.selection.Cause.{Cause}
-use Rattle.of_table.specs.declared.selection.Cause.TheVariants.{Moment}
-use Rattle.of_table.specs.Table.{FlowEntry, is_same, with_flow}
-use Rattle.of_table.specs.Entries.{entry_of, same_entry, added_entries}
 use Rattle.of_table.specs.Selecting.{modifies, modified_by, modified_entries, modified_entry, reason_of, stays, told_by, numbered_notices, kept_of}
-use Rattle.of_table.specs.Deadlines.{all_stay, NoneOver}
+use Rattle.of_table.specs.{declared.entry.Entry.Entry, declared.flow.Flow.Flow, declared.selection.Selector.Selector, declared.selection.Cause.Cause, declared.selection.Cause.TheVariants.Moment}
+use Rattle.of_table.specs.{Table.FlowEntry, Table.is_same, Table.with_flow, Entries.entry_of, Entries.same_entry, Entries.added_entries, Deadlines.all_stay, Deadlines.NoneOver}
 use Rattle.of_table.proofs.Soundness.{all-filter, all-set}
-use Rattle.std.specs.Option.{option_map, option_to_list}
 use Rattle.of_oxm.proofs.Related.{and_true}
 use Rattle.of_wire.specs.declared.reasons.FlowRemovedReason.{FlowRemovedReason}
 

@@ -1,13 +1,9 @@
 -- Entries after one of them is changed.
 use Rattle.std.proofs.Common.{◌≡◌, ℕ, zero, suc, ◌<◌, Bool, List, [], ◌∷◌, length, get_or, set, refl, sym, ap, ◌∙◌, arith}
-use Rattle.std.specs.Prelude.{map}
-use Rattle.std.proofs.lemmas.List.{length-map}
+use Rattle.std.{specs.Prelude.map, proofs.lemmas.List.length-map}
 use Rattle.of_actions.specs.declared.instruction.Instruction.{Instruction}
-use Rattle.of_table.specs.Table.{FlowEntry}
-use Rattle.of_table.specs.Entries.{entry_of, flows_of, classifier_row, rows_of}
-use Rattle.of_table.specs.Selecting.{modified_by, modified, modified_entries}
-use Rattle.of_table.specs.declared.selection.Selector.{Selector}
-use Rattle.of_table.specs.declared.entry.Entry.{Entry}
+use Rattle.of_table.specs.{Table.FlowEntry, Entries.entry_of, Entries.flows_of, Entries.classifier_row, Entries.rows_of, Selecting.modified_by, Selecting.modified, Selecting.modified_entries}
+use Rattle.of_table.specs.{declared.selection.Selector.Selector, declared.entry.Entry.Entry}
 
 pub set_same : {X Y : Type 0} (f : X → Y) (xs : List X) (k : ℕ) (x d : X) → k < length xs → f x ≡ f (get_or xs k d) → map f (set xs k x) ≡ map f xs
 set_same f [] k x d lt is = absurd (omega (arith, lt))

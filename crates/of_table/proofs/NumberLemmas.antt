@@ -1,21 +1,13 @@
 -- Entries by their numbers.
 use Rattle.std.proofs.Common.{◌≡◌, ℕ, zero, suc, ◌+◌, ◌<◌, Bool, true, false, cond, eqb, ◌||◌, List, [], ◌∷◌, length, get_or, Option, Some, None, refl, sym, ap, ◌∙◌, arith}
-use Rattle.std.specs.Prelude.{position, find, slice_get, nat_lt}
-use Rattle.std.specs.List.{position_or_len, list_any}
-use Rattle.std.specs.Option.{option_map}
-use Rattle.std.proofs.lemmas.Bool.Decides.{nat_tests, eqb_tells}
-use Rattle.std.proofs.lemmas.Bool.{eq-eqb}
-use Rattle.std.proofs.lemmas.Option.{slice_get-map, slice_get-get_or}
-use Rattle.std.proofs.lemmas.List.Folds.{find_at}
-use Rattle.of_wire.specs.Numbered.{is_used, is_distinct}
-use Rattle.of_wire.proofs.NumberedLemmas.{distinct-map, used_at}
-use Rattle.of_classifier.specs.Rows.{row_number, is_same_row, same_of}
-use Rattle.of_classifier.specs.Winner.{winner_number}
+use Rattle.std.specs.{Prelude.position, Prelude.find, Prelude.slice_get, Prelude.nat_lt, List.position_or_len, List.list_any, Option.option_map}
+use Rattle.std.proofs.{lemmas.Bool.Decides.nat_tests, lemmas.Bool.Decides.eqb_tells, lemmas.Bool.eq-eqb, lemmas.Option.slice_get-map, lemmas.Option.slice_get-get_or, lemmas.List.Folds.find_at}
+use Rattle.of_wire.{specs.Numbered.is_used, specs.Numbered.is_distinct, proofs.NumberedLemmas.distinct-map, proofs.NumberedLemmas.used_at}
+use Rattle.of_classifier.specs.{Rows.row_number, Rows.is_same_row, Rows.same_of, Winner.winner_number}
 use Rattle.of_table.proofs.PlaceLemmas.{any-map, any-place, find-map, find_none, place-map, position_some, position_none, position-first, position-later}
-use Rattle.of_oxm.specs.declared.match_field.MatchField.{MatchField}
-use Rattle.of_table.specs.Table.{flow_at}
 use Rattle.of_table.specs.Entries.{entry_of, flows_of, classifier_row, rows_of, entry_number, is_entry_there, place_of, find_number}
-use Rattle.of_table.specs.declared.entry.Entry.{Entry}
+use Rattle.of_table.specs.{Table.flow_at, declared.entry.Entry.Entry}
+use Rattle.of_oxm.specs.declared.match_field.MatchField.{MatchField}
 
 -- the classifier's numbers are distinct exactly where those of the entries are
 pub distinct-rows : (es : List Entry) → is_distinct row_number (rows_of es) ≡ is_distinct entry_number es

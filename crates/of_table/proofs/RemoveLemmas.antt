@@ -1,21 +1,12 @@
 -- Entries after one more of them was checked, and removed if the cause applies to it.
 use Rattle.std.proofs.Common.{◌≡◌, ℕ, ◌+◌, ◌<◌, Bool, true, false, cond, eqb, List, [], ◌∷◌, ◌++◌, length, get_or, take, drop, Option, Some, None, refl, sym, ap, ◌∙◌, arith, append_assoc}
-use Rattle.std.specs.Prelude.{map, is_some, is_none}
-use Rattle.std.specs.Option.{option_map, option_to_list}
-use Rattle.std.proofs.lemmas.Bool.Decides.{nat_tests}
-use Rattle.std.proofs.lemmas.List.{map-append, append-nil, drop_more, take_more}
-use Rattle.std.proofs.lemmas.List.Elements.{filter-append}
-use Rattle.of_wire.specs.Numbered.{is_used, is_distinct, without}
-use Rattle.of_wire.proofs.NumberedLemmas.{without_unused}
-use Rattle.of_classifier.specs.declared.Row.{Row}
-use Rattle.of_classifier.specs.Rows.{row_number}
-use Rattle.of_table.proofs.PlaceLemmas.{filter-map}
-use Rattle.of_table.specs.Entries.{entry_of, flows_of, classifier_row, rows_of}
+use Rattle.std.{specs.Prelude.map, specs.Prelude.is_some, specs.Prelude.is_none, specs.Option.option_map, specs.Option.option_to_list, proofs.lemmas.Bool.Decides.nat_tests}
+use Rattle.std.proofs.{lemmas.List.map-append, lemmas.List.append-nil, lemmas.List.drop_more, lemmas.List.take_more, lemmas.List.Elements.filter-append}
+use Rattle.of_wire.{specs.Numbered.is_used, specs.Numbered.is_distinct, specs.Numbered.without, specs.declared.reasons.FlowRemovedReason.FlowRemovedReason, proofs.NumberedLemmas.without_unused}
+use Rattle.of_classifier.specs.{declared.Row.Row, Rows.row_number}
 use Rattle.of_table.specs.Selecting.{Notice, NumberedNotice, stays, entries_left, reason_of, notice_by, notices, notice_of, notices_of, numbered_notice, told_by, numbered_notices, all_told, kept_of}
-use Rattle.of_wire.specs.declared.reasons.FlowRemovedReason.{FlowRemovedReason}
-use Rattle.of_table.specs.declared.selection.Cause.{Cause}
-use Rattle.of_table.specs.declared.selection.Removed.{Removed}
-use Rattle.of_table.specs.declared.entry.Entry.{Entry}
+use Rattle.of_table.specs.{Entries.entry_of, Entries.flows_of, Entries.classifier_row, Entries.rows_of, declared.selection.Cause.Cause, declared.selection.Removed.Removed}
+use Rattle.of_table.{specs.declared.entry.Entry.Entry, proofs.PlaceLemmas.filter-map}
 
 -- an element stands between others
 used_between : {X : Type 0} (f : X → ℕ) (xs ys : List X) (x : X) → is_used f (f x) (xs ++ x ∷ ys) ≡ true

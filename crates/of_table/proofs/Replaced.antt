@@ -1,7 +1,7 @@
 -- Entries after some that were replaced.
 use Rattle.std.proofs.Common.{◌≡◌, ℕ, zero, suc, ◌+◌, ◌-◌, ◌<◌, ◌≤◌, List, [], ◌∷◌, ◌++◌, length, get_or, take, drop, refl, sym, ap, ◌∙◌, arith}
-use Rattle.std.specs.Prelude.{remove}
 use Rattle.std.proofs.lemmas.List.{length-drop, length-take-le, length-append, drop-drop, drop-append-le, get_or-drop, drop_at, drop_all, take_all, append-nil}
+use Rattle.std.specs.Prelude.{remove}
 
 -- one that comes after them
 pub at_behind : {X : Type 0} (xs : List X) (r k : ℕ) (x : X) → x ≡ get_or xs (r + k) x → x ≡ get_or (drop r xs) k x

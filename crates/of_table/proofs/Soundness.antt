@@ -1,29 +1,17 @@
 -- The invariants of the entries of each table are kept.
 use Rattle.std.proofs.Common.{◌≡◌, ℕ, zero, suc, ◌+◌, ◌<◌, ◌≤◌, Bool, true, false, not, cond, ltb, ltb-true, List, [], ◌∷◌, ◌&&◌, length, set, get_or, refl, sym, ap, arith, ◌∙◌}
-use Rattle.std.specs.Prelude.{filter, map, find, Option, Some, None, slice_index_or}
-use Rattle.std.specs.List.{list_all}
-use Rattle.std.proofs.lemmas.Bool.Decides.{nat_tests}
-use Rattle.std.proofs.lemmas.List.Folds.{list_all-append}
-use Rattle.of_table.specs.declared.flow.Flow.{Flow}
-use Rattle.of_table.specs.declared.selection.Cause.{Cause}
-use Rattle.of_table.specs.Table.{FlowEntry, Table, empty_table, added, with_flow, is_same, counted_at, matched_at}
-use Rattle.of_table.specs.Selecting.{entries_left, stays}
+use Rattle.std.specs.Prelude.{filter, map, find, Option, Some, None, slice_index_or, Result, Ok, Err, OnOk, OnErr}
+use Rattle.std.{specs.List.list_all, proofs.lemmas.Bool.Decides.nat_tests, proofs.lemmas.List.Folds.list_all-append}
 use Rattle.std.proofs.lemmas.List.{length-map, length-set, map-set, get_or-map}
-use Rattle.std.specs.Prelude.{Result, Ok, Err, OnOk, OnErr}
-use Rattle.of_table.proofs.TablesLemmas.{get_or_past, each-map, kept_one}
-use Rattle.of_table.specs.Tables.{each_from, concerns, left_table, kept_table}
-use Rattle.of_table.specs.declared.entry.Entry.{Entry}
-use Rattle.of_table.specs.Entries.{Numbered, table_of, entry_of, flows_of}
-use Rattle.of_table.specs.Entries.{classifier_row, AddsEntry}
-use Rattle.of_table.proofs.AddLemmas.{flows_added}
-use Rattle.of_table.specs.declared.table_fault.TableFault.{TableFault}
-use Rattle.of_table.specs.Faults.{flow_fault_in}
-use Rattle.of_table.specs.Table.{add_flow_fault}
+use Rattle.of_table.specs.Table.{FlowEntry, Table, empty_table, added, with_flow, is_same, counted_at, matched_at, add_flow_fault}
+use Rattle.of_table.specs.Entries.{Numbered, table_of, entry_of, flows_of, classifier_row, AddsEntry}
+use Rattle.of_table.specs.Sound.{Key, entry_key, are_instructions_fit, is_entry_fit, is_checked, are_unlike, AreSoundEntries, AllSound}
+use Rattle.of_table.specs.{declared.flow.Flow.Flow, declared.selection.Cause.Cause, Selecting.entries_left, Selecting.stays, Tables.each_from, Tables.concerns, Tables.left_table, Tables.kept_table}
+use Rattle.of_table.specs.{declared.entry.Entry.Entry, declared.table_fault.TableFault.TableFault, Faults.flow_fault_in}
+use Rattle.of_table.proofs.{TablesLemmas.get_or_past, TablesLemmas.each-map, TablesLemmas.kept_one, AddLemmas.flows_added, ModifyLemmas.set_same}
+use Rattle.of_table.proofs.Unlike.{few_added, unlike_added, unlike_filter, filter_fewer}
 use Rattle.of_actions.specs.FlowCheck.{all_go_with}
 use Rattle.of_classifier.specs.declared.Row.{Row}
-use Rattle.of_table.specs.Sound.{Key, entry_key, are_instructions_fit, is_entry_fit, is_checked, are_unlike, AreSoundEntries, AllSound}
-use Rattle.of_table.proofs.ModifyLemmas.{set_same}
-use Rattle.of_table.proofs.Unlike.{few_added, unlike_added, unlike_filter, filter_fewer}
 
 -- ---- lists of entries
 

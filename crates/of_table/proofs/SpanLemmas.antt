@@ -1,33 +1,19 @@
 -- What is outside a span, where none passes, does not count.
 use Rattle.std.proofs.Common.{◌≡◌, ℕ, suc, zero, ◌+◌, ◌-◌, ◌<◌, ◌≤◌, Bool, true, false, not, cond, ◌&&◌, ◌||◌, List, [], ◌∷◌, ◌++◌, Option, Some, None, Result, Ok, Err, length, get_or, take, drop, refl, sym, ap, subst, ◌∙◌, arith, add-one}
 use Rattle.std.specs.Prelude.{OnOk, count_by, map, position, remove}
-use Rattle.std.specs.Option.{option_to_list}
-use Rattle.std.specs.List.{list_any, list_all, slice_range}
-use Rattle.std.proofs.lemmas.List.{take-append-drop, append-nil, map-append, drop_more}
-use Rattle.std.proofs.lemmas.List.Concat.{flat_map-append}
-use Rattle.std.proofs.lemmas.List.Elements.{filter-append}
-use Rattle.std.proofs.lemmas.List.Folds.{drop_split}
-use Rattle.std.proofs.lemmas.List.Quantifiers.{position-Some}
-use Rattle.std.proofs.lemmas.List.Sums.{sum_by-cons, sum_by-append, sum_by-take-drop}
+use Rattle.std.specs.{Option.option_to_list, List.list_any, List.list_all, List.slice_range}
+use Rattle.std.proofs.{lemmas.List.take-append-drop, lemmas.List.append-nil, lemmas.List.map-append, lemmas.List.drop_more, lemmas.List.Concat.flat_map-append, lemmas.List.Elements.filter-append}
+use Rattle.std.proofs.{lemmas.List.Folds.drop_split, lemmas.List.Quantifiers.position-Some, lemmas.List.Sums.sum_by-cons, lemmas.List.Sums.sum_by-append, lemmas.List.Sums.sum_by-take-drop}
 use Rattle.of_actions.specs.declared.instruction.Instruction.{Instruction}
 use Rattle.of_oxm.specs.declared.match_field.MatchField.{MatchField}
 use Rattle.of_classifier.specs.Rows.{is_same_row}
-use Rattle.of_table.specs.declared.entry.Entry.{Entry}
-use Rattle.of_table.specs.declared.selection.Selector.{Selector}
-use Rattle.of_table.specs.declared.selection.Cause.{Cause}
-use Rattle.of_table.specs.declared.selection.Cause.TheVariants.{Delete}
-use Rattle.of_wire.proofs.Changing.{changed_to}
-use Rattle.of_table.specs.Table.{FlowEntry}
 use Rattle.of_table.specs.Entries.{Numbered, entry_of, flows_of, classifier_row, on_entry}
 use Rattle.of_table.specs.Selecting.{is_meant_by, is_meant, modifies, selects, modified_by, modified_entries, stays, reason_of, kept_of, NumberedNotice, told_by, numbered_notices}
-use Rattle.of_table.specs.Copies.{Supply, is_modified, wanted, wanted_in}
-use Rattle.of_table.specs.Tables.{is_in, concerns, told_table, kept_table}
-use Rattle.of_table.specs.Deadlines.{all_stay}
-use Rattle.of_table.specs.Sound.{Key, entry_key, is_same_key, are_unlike}
-use Rattle.of_table.specs.Spans.{Outside}
-use Rattle.of_table.proofs.PlaceLemmas.{any-map, position_none}
-use Rattle.of_table.proofs.Unlike.{same_key, unlike_parts, none_first, none_second}
-use Rattle.of_table.proofs.DeadlineLemmas.{all_kept, none_told}
+use Rattle.of_table.specs.{declared.entry.Entry.Entry, declared.selection.Selector.Selector, declared.selection.Cause.Cause, declared.selection.Cause.TheVariants.Delete, Table.FlowEntry}
+use Rattle.of_table.specs.{Copies.Supply, Copies.is_modified, Copies.wanted, Copies.wanted_in, Tables.is_in, Tables.concerns, Tables.told_table, Tables.kept_table, Deadlines.all_stay}
+use Rattle.of_table.{specs.Sound.Key, specs.Sound.entry_key, specs.Sound.is_same_key, specs.Sound.are_unlike, specs.Spans.Outside, proofs.PlaceLemmas.any-map, proofs.PlaceLemmas.position_none}
+use Rattle.of_table.proofs.{Unlike.same_key, Unlike.unlike_parts, Unlike.none_first, Unlike.none_second, DeadlineLemmas.all_kept, DeadlineLemmas.none_told}
+use Rattle.of_wire.proofs.Changing.{changed_to}
 
 -- ---- lists in parts
 

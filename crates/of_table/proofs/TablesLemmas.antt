@@ -4,20 +4,13 @@ use Rattle.std.specs.Prelude.{Option, map, replicate, slice_set, slice_index_or,
 use Rattle.std.proofs.lemmas.List.{map-set, map-append, take_all, drop_all, append-nil}
 use Rattle.std.proofs.Math.ListN.{get_or-map}
 use Rattle.of_actions.specs.declared.instruction.Instruction.{Instruction}
-use Rattle.of_table.proofs.ModifyLemmas.{set_same, flows_modified}
-use Rattle.of_table.proofs.RemoveLemmas.{flows_left, untold, notices_told, notices_all}
-use Rattle.of_table.proofs.CopyLemmas.{replicate_more}
-use Rattle.of_table.proofs.AddLemmas.{flows_added}
-use Rattle.of_table.specs.declared.flow.Flow.{Flow}
-use Rattle.of_table.specs.Table.{FlowEntry, Table, empty_table, added}
 use Rattle.of_table.specs.Entries.{Numbered, AddsEntry, IsNumberFor, added_entries, no_entries, table_of, flows_of, entry_numbers}
 use Rattle.of_table.specs.Selecting.{NumberedNotice, entries_left, kept_of, modified, modified_entries, notices, notices_of, numbered_notices, all_told}
-use Rattle.of_table.specs.Copies.{wanted_in, wanted_from}
-use Rattle.of_table.specs.declared.selection.Cause.{Cause}
-use Rattle.of_table.specs.declared.selection.Cause.TheVariants.{Delete, Group}
-use Rattle.of_table.specs.declared.selection.Selector.{Selector}
-use Rattle.of_table.specs.declared.selection.Removed.{Removed}
 use Rattle.of_table.specs.Tables.{NumberedTables, AddsFlow, numbered_at, added_to, is_in, concerns, table_at, with_table, tables_of, all_numbers, each_from, cause_at, latest_after, left_table, left_in, modified_table, modified_in, table_notices, notices_from, notices_in, modified_numbered, all_modified, kept_table, all_kept, told_table, numbered_notices_from, told_in}
+use Rattle.of_table.specs.{declared.flow.Flow.Flow, Table.FlowEntry, Table.Table, Table.empty_table, Table.added, Copies.wanted_in, Copies.wanted_from, declared.selection.Cause.Cause}
+use Rattle.of_table.specs.{declared.selection.Cause.TheVariants.Delete, declared.selection.Cause.TheVariants.Group, declared.selection.Selector.Selector, declared.selection.Removed.Removed}
+use Rattle.of_table.proofs.{ModifyLemmas.set_same, ModifyLemmas.flows_modified, RemoveLemmas.flows_left, RemoveLemmas.untold, RemoveLemmas.notices_told, RemoveLemmas.notices_all}
+use Rattle.of_table.proofs.{CopyLemmas.replicate_more, AddLemmas.flows_added}
 
 any_default : {X : Type 0} (xs : List X) (k : ℕ) (c d : X) → k < length xs → get_or xs k c ≡ get_or xs k d
 any_default [] k c d lt = absurd (omega (arith, lt))

@@ -1,25 +1,15 @@
 -- No two entries have the same priority and match, also after one more is added or some are removed.
 use Rattle.std.proofs.Common.{◌≡◌, ℕ, suc, ◌+◌, ◌<◌, ◌≤◌, Bool, true, false, not, cond, ◌&&◌, ◌||◌, List, [], ◌∷◌, ◌++◌, Option, Some, None, length, refl, sym, ap, subst, ◌∙◌, arith}
 use Rattle.std.specs.Prelude.{filter, map, find, nat_le, position, remove}
-use Rattle.std.specs.List.{list_any}
-use Rattle.std.specs.Option.{option_map}
-use Rattle.std.proofs.lemmas.Bool.{eq-eqb}
-use Rattle.std.proofs.lemmas.Bool.Decides.{nat_tests}
-use Rattle.std.proofs.lemmas.List.{map-append, length-append}
+use Rattle.std.{specs.List.list_any, specs.Option.option_map, proofs.lemmas.Bool.eq-eqb, proofs.lemmas.Bool.Decides.nat_tests, proofs.lemmas.List.map-append, proofs.lemmas.List.length-append}
 use Rattle.std.proofs.lemmas.List.Folds.{list_any-append}
 use Rattle.of_oxm.specs.SameMatch.{is_same_match}
-use Rattle.of_table.specs.declared.flow.Flow.{Flow}
-use Rattle.of_table.specs.declared.entry.Entry.{Entry}
-use Rattle.of_table.specs.declared.table_fault.TableFault.TheVariants.{Overlap, Full}
 use Rattle.of_table.specs.Table.{FlowEntry, is_same, is_full, is_overlapped, add_flow_fault, with_flow, added}
+use Rattle.of_table.specs.{declared.flow.Flow.Flow, declared.entry.Entry.Entry, declared.table_fault.TableFault.TheVariants.Overlap, declared.table_fault.TableFault.TheVariants.Full}
+use Rattle.of_table.specs.{declared.selection.Cause.Cause, Selecting.stays, Selecting.kept_of, Entries.entry_of, Entries.flows_of, Entries.rows_of, Entries.added_entries}
+use Rattle.of_table.{specs.Sound.Key, specs.Sound.entry_key, specs.Sound.is_same_key, specs.Sound.are_unlike, proofs.AddLemmas.same_is, proofs.AddLemmas.is_itself, proofs.AddLemmas.flows_added}
+use Rattle.of_table.proofs.{RemoveLemmas.flows_left, PlaceLemmas.any-map, PlaceLemmas.filter_others, PlaceLemmas.position-first, PlaceLemmas.position-later}
 use Rattle.of_classifier.specs.declared.Row.{Row}
-use Rattle.of_table.specs.declared.selection.Cause.{Cause}
-use Rattle.of_table.specs.Selecting.{stays, kept_of}
-use Rattle.of_table.specs.Entries.{entry_of, flows_of, rows_of, added_entries}
-use Rattle.of_table.specs.Sound.{Key, entry_key, is_same_key, are_unlike}
-use Rattle.of_table.proofs.AddLemmas.{same_is, is_itself, flows_added}
-use Rattle.of_table.proofs.RemoveLemmas.{flows_left}
-use Rattle.of_table.proofs.PlaceLemmas.{any-map, filter_others, position-first, position-later}
 
 -- ---- keys
 

@@ -1,21 +1,15 @@
 -- The winner of a classifier is the entry that a packet hits.
 use Rattle.std.proofs.Common.{◌≡◌, ℕ, suc, ◌+◌, ◌<◌, Bool, true, false, ◌&&◌, cond, List, [], ◌∷◌, Option, Some, None, length, refl, sym, ap, ◌∙◌, arith}
 use Rattle.std.specs.Prelude.{find, nat_le, position, IfSome, IsTrue}
-use Rattle.std.specs.List.{list_all}
-use Rattle.std.specs.Option.{option_map}
+use Rattle.std.specs.{List.list_all, Option.option_map}
 use Rattle.of_layers.specs.declared.field.Field.{Field}
-use Rattle.of_wire.specs.Highest.{is_highest}
-use Rattle.of_wire.specs.Numbered.{is_distinct}
+use Rattle.of_wire.specs.{Highest.is_highest, Numbered.is_distinct}
 use Rattle.of_oxm.specs.Relations.{matches_map}
-use Rattle.of_classifier.specs.declared.Row.{Row}
-use Rattle.of_classifier.specs.Rows.{made_row, row_priority}
+use Rattle.of_classifier.{specs.declared.Row.Row, specs.Rows.made_row, specs.Rows.row_priority, proofs.Finding.find-filter}
 use Rattle.of_classifier.specs.Winner as rows
-use Rattle.of_classifier.proofs.Finding.{find-filter}
-use Rattle.of_table.proofs.PlaceLemmas.{find-map, position_some, position-first, position-later}
-use Rattle.of_table.proofs.NumberLemmas.{found_place, found_is_there}
-use Rattle.of_table.specs.Table.{rows_from, winner_place}
 use Rattle.of_table.specs.Entries.{flows_of, classifier_row, rows_of, entry_number, place_of, is_entry_there}
-use Rattle.of_table.specs.declared.entry.Entry.{Entry}
+use Rattle.of_table.specs.{Table.rows_from, Table.winner_place, declared.entry.Entry.Entry}
+use Rattle.of_table.proofs.{PlaceLemmas.find-map, PlaceLemmas.position_some, PlaceLemmas.position-first, PlaceLemmas.position-later, NumberLemmas.found_place, NumberLemmas.found_is_there}
 
 -- it matches, and none that matches has a higher priority
 abbrev is_best : (Field → Option ℕ) → List Row → Row → Bool

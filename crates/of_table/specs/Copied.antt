@@ -1,7 +1,6 @@
 -- A copy of one flow table, which can change places with it: so a FLOW_MOD can be taken back (OpenFlow 1.3.5, 6.4 and 7.3.4.1).
 use Rattle.std.specs.Prelude.{ℕ, slice_set}
-use Rattle.of_table.specs.Entries.{Numbered}
-use Rattle.of_table.specs.Tables.{NumberedTables, numbered_at}
+use Rattle.of_table.specs.{Entries.Numbered, Tables.NumberedTables, Tables.numbered_at}
 
 -- the number of the table, and the copy, whose entries may have other numbers than the table's
 pub record NumberedCopy : Type 0 where

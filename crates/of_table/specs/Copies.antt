@@ -1,11 +1,7 @@
 -- How many copies of its instructions a MODIFY needs: inner definitions, which no public contract cites.
 use Rattle.std.specs.Prelude.{ℕ, suc, ◌+◌, count_by, Bool, List, [], ◌∷◌, if◌then◌else◌}
 use Rattle.of_actions.specs.declared.instruction.Instruction.{Instruction}
-use Rattle.of_table.specs.declared.selection.Selector.{Selector}
-use Rattle.of_table.specs.declared.entry.Entry.{Entry}
-use Rattle.of_table.specs.Entries.{Numbered, entry_of}
-use Rattle.of_table.specs.Selecting.{modifies}
-use Rattle.of_table.specs.Tables.{is_in}
+use Rattle.of_table.specs.{declared.selection.Selector.Selector, declared.entry.Entry.Entry, Entries.Numbered, Entries.entry_of, Selecting.modifies, Tables.is_in}
 
 -- copies of instructions, and how many they are
 pub record Supply : Type 0 where

@@ -1,11 +1,7 @@
 -- Before which moment no entry expires: inner definitions, which no public contract cites.
 use Rattle.std.specs.Prelude.{◌≡◌, ◌<◌, ℕ, Bool, true, List}
 use Rattle.std.specs.List.{list_all}
-use Rattle.of_table.specs.declared.entry.Entry.{Entry}
-use Rattle.of_table.specs.declared.selection.Cause.{Cause}
-use Rattle.of_table.specs.declared.selection.Cause.TheVariants.{Moment}
-use Rattle.of_table.specs.Entries.{entry_of}
-use Rattle.of_table.specs.Selecting.{stays}
+use Rattle.of_table.specs.{declared.entry.Entry.Entry, declared.selection.Cause.Cause, declared.selection.Cause.TheVariants.Moment, Entries.entry_of, Selecting.stays}
 
 -- none of the entries is removed
 abbrev pub all_stay : Cause → List Entry → Bool

@@ -1,12 +1,8 @@
 -- The entries of a flow table, oldest first, with the numbers by which it names them.
 use Rattle.std.specs.Prelude.{◌≡◌, ℕ, ◌==◌, ◌++◌, Bool, false, not, List, [], ◌∷◌, Option, MatchOption, map, filter, find}
-use Rattle.std.specs.List.{list_any, position_or_len}
-use Rattle.std.specs.Option.{option_map}
-use Rattle.of_classifier.specs.declared.Row.{Row}
-use Rattle.of_classifier.specs.Rows.{made_row}
-use Rattle.of_table.specs.declared.entry.Entry.{Entry}
-use Rattle.of_table.specs.declared.flow.Flow.{Flow}
-use Rattle.of_table.specs.Table.{FlowEntry, Table, is_same, with_flow}
+use Rattle.std.specs.{List.list_any, List.position_or_len, Option.option_map}
+use Rattle.of_classifier.specs.{declared.Row.Row, Rows.made_row}
+use Rattle.of_table.specs.{declared.entry.Entry.Entry, declared.flow.Flow.Flow, Table.FlowEntry, Table.Table, Table.is_same, Table.with_flow}
 
 -- an entry without its number
 abbrev pub entry_of : Entry → FlowEntry

@@ -1,24 +1,15 @@
 -- Which entries a command selects, and which are removed at a moment or with a group (OpenFlow 1.3.5, 5.5, 6.4 and 6.5).
 use Rattle.std.specs.Prelude.{ℕ, ◌-◌, ◌*◌, ◌/◌, ◌%◌, ◌==◌, ◌&&◌, nat_le, not, Bool, true, false, List, map, filter, Option, Some, None, is_none, unwrap_or, bit_and, if◌then◌else◌}
-use Rattle.std.specs.List.{list_any, flat_map}
-use Rattle.std.specs.Option.{option_map, option_map_or, option_to_list}
-use Rattle.of_actions.specs.declared.action.Action.{Action}
-use Rattle.of_actions.specs.declared.action.Action.TheVariants.{Output, Group}
-use Rattle.of_actions.specs.declared.instruction.Instruction.{Instruction}
+use Rattle.std.specs.{List.list_any, List.flat_map, Option.option_map, Option.option_map_or, Option.option_to_list}
+use Rattle.of_actions.specs.{declared.action.Action.Action, declared.action.Action.TheVariants.Output, declared.action.Action.TheVariants.Group, declared.instruction.Instruction.Instruction}
 use Rattle.of_actions.specs.declared.instruction.Instruction.TheVariants.{Apply, Write}
-use Rattle.of_oxm.specs.Relations.{covers_match}
-use Rattle.of_oxm.specs.SameMatch.{is_same_match}
-use Rattle.of_table.specs.declared.selection.Selector.{Selector}
-use Rattle.of_table.specs.declared.selection.Cause.{Cause}
+use Rattle.of_oxm.specs.{Relations.covers_match, SameMatch.is_same_match}
+use Rattle.of_table.specs.{declared.selection.Selector.Selector, declared.selection.Cause.Cause, declared.selection.Removed.Removed, declared.selection.Target.Target}
+use Rattle.of_table.specs.{declared.selection.Target.TheVariants.Port, declared.selection.Target.TheVariants.Group as ToGroup, declared.entry.Entry.Entry, Table.FlowEntry, Table.unless_reset}
+use Rattle.of_table.specs.Entries.{entry_of, on_entry}
 use Rattle.of_table.specs.declared.selection.Cause.TheVariants as causes
 use Rattle.of_wire.specs.declared.reasons.FlowRemovedReason.{FlowRemovedReason}
 use Rattle.of_wire.specs.declared.reasons.FlowRemovedReason.TheVariants.{IdleTimeout, HardTimeout, Delete, GroupDelete}
-use Rattle.of_table.specs.declared.selection.Removed.{Removed}
-use Rattle.of_table.specs.declared.selection.Target.{Target}
-use Rattle.of_table.specs.declared.selection.Target.TheVariants.{Port, Group as ToGroup}
-use Rattle.of_table.specs.declared.entry.Entry.{Entry}
-use Rattle.of_table.specs.Table.{FlowEntry, unless_reset}
-use Rattle.of_table.specs.Entries.{entry_of, on_entry}
 
 -- ---- which entries a command selects (6.4)
 

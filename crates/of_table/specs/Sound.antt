@@ -1,15 +1,10 @@
 -- The invariants of the entries of each table (OpenFlow 1.3.5, 5.2 and 5.9).
 use Rattle.std.specs.Prelude.{◌≡◌, ◌≤◌, ℕ, suc, Bool, true, not, ◌&&◌, ◌==◌, List, [], ◌∷◌, map, length, IsTrue, ⊤}
 use Rattle.std.specs.List.{list_any, list_all}
-use Rattle.of_oxm.specs.declared.match_field.MatchField.{MatchField}
-use Rattle.of_oxm.specs.SameMatch.{is_same_match}
-use Rattle.of_actions.specs.declared.instruction.Instruction.{Instruction}
-use Rattle.of_actions.specs.InstructionLists.{are_kept, are_for}
-use Rattle.of_actions.specs.FlowCheck.{all_go_with}
+use Rattle.of_oxm.specs.{declared.match_field.MatchField.MatchField, SameMatch.is_same_match}
+use Rattle.of_actions.specs.{declared.instruction.Instruction.Instruction, InstructionLists.are_kept, InstructionLists.are_for, FlowCheck.all_go_with}
 use Rattle.of_classifier.specs.declared.Row.{Row}
-use Rattle.of_table.specs.declared.selection.Selector.{Selector}
-use Rattle.of_table.specs.Table.{FlowEntry, Table}
-use Rattle.of_table.specs.Tables.{is_in}
+use Rattle.of_table.specs.{declared.selection.Selector.Selector, Table.FlowEntry, Table.Table, Tables.is_in}
 
 -- the instructions are valid in an entry of the table: in execution order, one of a type, and GOTO_TABLE leads to a later table
 abbrev pub are_instructions_fit : ℕ → List Instruction → Bool

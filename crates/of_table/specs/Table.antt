@@ -1,17 +1,11 @@
 -- A flow table as a reader sees it (OpenFlow 1.3.5, 5.2, 5.3, 5.8 and 6.4): its entries, oldest first, and its counters.
 use Rattle.std.specs.Prelude.{ℕ, ◌+◌, ◌%◌, ◌^◌, ◌==◌, ◌&&◌, ◌++◌, Bool, false, not, List, [], ◌∷◌, length, Option, Some, None, zero, suc, filter, find, nat_le, slice_get, if◌then◌else◌}
-use Rattle.std.specs.List.{list_any}
-use Rattle.std.specs.Option.{option_map}
+use Rattle.std.specs.{List.list_any, Option.option_map}
 use Rattle.of_wire.specs.declared.limits.TheConstants.{MOST_ENTRIES, OFPFF_NO_BYT_COUNTS, OFPFF_NO_PKT_COUNTS, OFPFF_SEND_FLOW_REM}
 use Rattle.of_layers.specs.declared.field.Field.{Field}
-use Rattle.of_oxm.specs.Relations.{overlaps_match}
-use Rattle.of_oxm.specs.SameMatch.{is_same_match}
-use Rattle.of_classifier.specs.declared.Row.{Row}
-use Rattle.of_classifier.specs.Rows.{made_row}
-use Rattle.of_classifier.specs.Winner.{winner_of, winner_number}
-use Rattle.of_table.specs.declared.flow.Flow.{Flow}
-use Rattle.of_table.specs.declared.flow.FlowFlags.{FlowFlags}
-use Rattle.of_table.specs.declared.table_fault.TableFault.{TableFault}
+use Rattle.of_oxm.specs.{Relations.overlaps_match, SameMatch.is_same_match}
+use Rattle.of_classifier.specs.{declared.Row.Row, Rows.made_row, Winner.winner_of, Winner.winner_number}
+use Rattle.of_table.specs.{declared.flow.Flow.Flow, declared.flow.FlowFlags.FlowFlags, declared.table_fault.TableFault.TableFault}
 use Rattle.of_table.specs.declared.table_fault.TableFault.TheVariants.{Overlap, Full}
 
 -- an entry (5.2): a flow, how many packets and bytes hit it (5.8), and the moments at which it was added and at which a packet hit it last, in nanoseconds

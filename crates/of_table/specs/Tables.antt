@@ -2,15 +2,11 @@
 use Rattle.std.specs.Prelude.{◌≡◌, ℕ, suc, ◌==◌, nat_le, max, Bool, true, List, [], ◌∷◌, ◌++◌, map, replicate, slice_set, slice_index_or, Option, Some, if◌then◌else◌}
 use Rattle.std.specs.Option.{option_map_or}
 use Rattle.of_actions.specs.declared.instruction.Instruction.{Instruction}
-use Rattle.of_table.specs.declared.flow.Flow.{Flow}
-use Rattle.of_table.specs.declared.table_fault.TableFault.{TableFault}
-use Rattle.of_table.specs.declared.table_fault.TableFault.TheVariants.{BadTable}
-use Rattle.of_table.specs.declared.selection.Selector.{Selector}
-use Rattle.of_table.specs.declared.selection.Cause.{Cause}
-use Rattle.of_table.specs.declared.selection.Cause.TheVariants.{Delete, Moment, Group}
 use Rattle.of_table.specs.Table.{Table, empty_table, added, add_flow_fault, looked, matched_at}
 use Rattle.of_table.specs.Selecting.{Notice, NumberedNotice, modified, modified_entries, entries_left, kept_of, notices, numbered_notices}
 use Rattle.of_table.specs.Entries.{Numbered, no_entries, table_of, entry_numbers, IsNumberFor, added_entries}
+use Rattle.of_table.specs.{declared.flow.Flow.Flow, declared.table_fault.TableFault.TableFault, declared.table_fault.TableFault.TheVariants.BadTable, declared.selection.Selector.Selector}
+use Rattle.of_table.specs.{declared.selection.Cause.Cause, declared.selection.Cause.TheVariants.Delete, declared.selection.Cause.TheVariants.Moment, declared.selection.Cause.TheVariants.Group}
 
 -- ---- as a reader sees them
 

@@ -20,9 +20,7 @@ pub struct Copied<L: Lookup> {
 
 impl<L: Lookup> Model for Copied<L> {
     ghost use Rattle.std.specs.Prelude.{◌<◌};
-    ghost use Rattle.of_table.specs.Entries.{table_of};
-    ghost use Rattle.of_table.specs.Copied.{NumberedCopy};
-    ghost use Rattle.of_table.specs.Sound.{AreSoundEntries};
+    ghost use Rattle.of_table.specs.{Entries.table_of, Copied.NumberedCopy, Sound.AreSoundEntries};
 
     ghost Value = { NumberedCopy };
 

@@ -1,10 +1,7 @@
 //! Before which moment no entry expires.
 
 ghost use Rattle.std.specs.Prelude.{◌≡◌, ◌<◌, ℕ, Option, true, false};
-ghost use Rattle.of_table.specs.Table.{FlowEntry, with_flow};
-ghost use Rattle.of_table.specs.Entries.{entry_of};
-ghost use Rattle.of_table.specs.Selecting.{is_over as over, stays};
-ghost use Rattle.of_table.specs.Deadlines.{NoneOver};
+ghost use Rattle.of_table.specs.{Table.FlowEntry, Table.with_flow, Entries.entry_of, Selecting.is_over as over, Selecting.stays, Deadlines.NoneOver};
 
 use crate::entry::Entry;
 use crate::flow::Flow;

@@ -1,11 +1,8 @@
 //! What is done to each flow table of a switch.
 
 ghost use Rattle.std.specs.Prelude.{◌≡◌, ◌≤◌, ◌+◌, ◌-◌, ℕ, true, map, length, OnOk, IfOk};
-ghost use Rattle.of_table.specs.Selecting.{all_told};
-ghost use Rattle.of_table.specs.Entries.{table_of};
 ghost use Rattle.of_table.specs.Tables.{is_in as is_within, each_from, modified_numbered, kept_table, numbered_notices_from};
-ghost use Rattle.of_table.specs.Copies.{Supply, wanted_in, wanted_from};
-ghost use Rattle.of_table.specs.Sound.{AreSoundEntries, AllSound, are_instructions_fit};
+ghost use Rattle.of_table.specs.{Selecting.all_told, Entries.table_of, Copies.Supply, Copies.wanted_in, Copies.wanted_from, Sound.AreSoundEntries, Sound.AllSound, Sound.are_instructions_fit};
 ghost use Rattle.of_actions.specs.FlowCheck.{all_go_with};
 
 use crate::copies::Copies;

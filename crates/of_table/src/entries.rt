@@ -7,8 +7,7 @@ ghost use Rattle.of_classifier.specs.Rows.{row_number};
 ghost use Rattle.of_oxm.specs.Relations.{overlaps_match};
 ghost use Rattle.of_table.specs.Table.{is_same, is_overlapped as overlapped, with_flow, incremented as with_more, counted_at};
 ghost use Rattle.of_table.specs.Entries.{entry_of, flows_of, rows_of, entry_numbers, place_of, is_entry_there, IsNumberFor, added_entries};
-ghost use Rattle.of_table.specs.Sound.{entry_key, are_unlike};
-ghost use Rattle.of_table.specs.Deadlines.{all_stay};
+ghost use Rattle.of_table.specs.{Sound.entry_key, Sound.are_unlike, Deadlines.all_stay};
 
 use crate::deadlines::entry_deadline;
 use crate::entry::Entry;

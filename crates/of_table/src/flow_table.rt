@@ -1,19 +1,15 @@
 //! Flow tables.
 
 ghost use Rattle.std.specs.Prelude.{◌≡◌, ◌==◌, ◌++◌, ◌+◌, ◌-◌, ◌≤◌, ℕ, Some, false, true, IsTrue, IfOk, IfSome, OnOk, OnErr, not, map, position};
-ghost use Rattle.std.specs.List.{list_any};
-ghost use Rattle.std.specs.Option.{option_map, option_copied};
+ghost use Rattle.std.specs.{List.list_any, Option.option_map, Option.option_copied};
 ghost use Rattle.of_headers.specs.FieldMap.{value};
 ghost use Rattle.of_wire.specs.Numbered.{is_distinct};
 ghost use Rattle.of_classifier.specs.Rows.{is_same_row};
 ghost use Rattle.of_table.specs.Table.{is_same, add_flow_fault, winner_place, looked as one_looked_up, matched_at};
 ghost use Rattle.of_table.specs.Entries.{Numbered, AddsEntry, no_entries, table_of, entry_of, flows_of, entry_numbers, classifier_row, rows_of, entry_number, place_of, is_entry_there, find_number};
 ghost use Rattle.of_table.specs.Selecting.{is_meant, stays, modified_entries, kept_of, all_told};
-ghost use Rattle.of_table.specs.Tables.{is_in as is_within, modified_numbered, kept_table, told_table};
-ghost use Rattle.of_table.specs.Copies.{Supply, wanted, wanted_in};
-ghost use Rattle.of_table.specs.Spans.{Outside};
-ghost use Rattle.of_table.specs.Faults.{flow_fault_in};
-ghost use Rattle.of_table.specs.Sound.{AreSoundEntries, are_instructions_fit, entry_key, are_unlike};
+ghost use Rattle.of_table.specs.{Tables.is_in as is_within, Tables.modified_numbered, Tables.kept_table, Tables.told_table, Copies.Supply, Copies.wanted, Copies.wanted_in, Spans.Outside};
+ghost use Rattle.of_table.specs.{Faults.flow_fault_in, Sound.AreSoundEntries, Sound.are_instructions_fit, Sound.entry_key, Sound.are_unlike};
 ghost use Rattle.of_actions.specs.FlowCheck.{all_go_with};
 
 use crate::copied::copy_entries;
@@ -56,9 +52,7 @@ pub struct FlowTable<L: Lookup> {
 
 impl<L: Lookup> Model for FlowTable<L> {
     ghost use Rattle.std.specs.Prelude.{◌≡◌, ◌≤◌, true, map, drop, length};
-    ghost use Rattle.of_table.specs.Entries.{Numbered, flows_of, rows_of};
-    ghost use Rattle.of_table.specs.Deadlines.{NoneOver};
-    ghost use Rattle.of_table.specs.Sound.{entry_key, are_unlike};
+    ghost use Rattle.of_table.specs.{Entries.Numbered, Entries.flows_of, Entries.rows_of, Deadlines.NoneOver, Sound.entry_key, Sound.are_unlike};
 
     ghost Value = { Numbered };
 

@@ -4,15 +4,11 @@ ghost use Rattle.std.specs.Prelude.{◌≡◌, ◌<◌, ℕ, true, Some, IsTrue,
 ghost use Rattle.std.specs.Option.{option_map, option_copied};
 ghost use Rattle.of_headers.specs.FieldMap.{value};
 ghost use Rattle.of_wire.specs.Numbered.{is_distinct};
-ghost use Rattle.of_table.specs.Table.{winner_place, flow_at};
-ghost use Rattle.of_table.specs.Selecting.{notices_of, all_told};
 ghost use Rattle.of_table.specs.Entries.{no_entries, table_of, flows_of, rows_of, place_of, is_entry_there, find_number, entry_number};
 ghost use Rattle.of_table.specs.Tables.{no_tables, AddsFlow, numbered_at, table_at, with_table, tables_of, all_numbers, tables_fault, added_to, modified_in, left_in, notices_in, looked_in, matched_in, all_modified, all_kept, each_from, kept_table, numbered_notices_from, told_in};
-ghost use Rattle.of_table.specs.Copied.{swapped_in, swapped_out};
-ghost use Rattle.of_table.specs.Faults.{flow_fault_in};
+ghost use Rattle.of_table.specs.{Table.winner_place, Table.flow_at, Selecting.notices_of, Selecting.all_told, Copied.swapped_in, Copied.swapped_out, Faults.flow_fault_in};
 ghost use Rattle.of_table.specs.Sound.{AreForAll, AreSoundEntries};
-ghost use Rattle.of_actions.specs.FlowCheck.{all_go_with};
-ghost use Rattle.of_actions.specs.InstructionLists.{are_for};
+ghost use Rattle.of_actions.specs.{FlowCheck.all_go_with, InstructionLists.are_for};
 
 use crate::copied::Copied;
 use crate::copies::Copies;
@@ -40,9 +36,7 @@ pub struct FlowTables<L: Lookup> {
 
 impl<L: Lookup> Model for FlowTables<L> {
     ghost use Rattle.std.specs.Prelude.{◌≡◌, length, map};
-    ghost use Rattle.of_table.specs.Entries.{table_of};
-    ghost use Rattle.of_table.specs.Tables.{NumberedTables};
-    ghost use Rattle.of_table.specs.Sound.{AllSound};
+    ghost use Rattle.of_table.specs.{Entries.table_of, Tables.NumberedTables, Sound.AllSound};
 
     ghost Value = { NumberedTables };
 

@@ -1,11 +1,8 @@
 //! Laws of copies of flow tables.
 ghost use Rattle.std.specs.Prelude.{◌≡◌, ◌<◌, ℕ, Bool, List, Some, length};
 ghost use Rattle.of_actions.specs.declared.instruction.Instruction.{Instruction as AnInstruction};
-ghost use Rattle.of_table.specs.declared.selection.Selector.{Selector as ASelector};
-ghost use Rattle.of_table.specs.Table.{Table};
-ghost use Rattle.of_table.specs.Entries.{table_of};
 ghost use Rattle.of_table.specs.Tables.{NumberedTables, table_at, with_table, modified_in, tables_of};
-ghost use Rattle.of_table.specs.Copied.{NumberedCopy, swapped_in, swapped_out};
+ghost use Rattle.of_table.specs.{declared.selection.Selector.Selector as ASelector, Table.Table, Entries.table_of, Copied.NumberedCopy, Copied.swapped_in, Copied.swapped_out};
 
 /// A second swap undoes the first.
 pub fn swaps_undo()

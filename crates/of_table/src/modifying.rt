@@ -2,9 +2,7 @@
 
 ghost use Rattle.std.specs.Prelude.{◌≡◌, ◌≤◌, ◌+◌, ◌-◌, ℕ, true, OnOk, if◌then◌else◌};
 ghost use Rattle.of_table.specs.Entries.{entry_of, flows_of, classifier_row, rows_of, on_entry};
-ghost use Rattle.of_table.specs.Selecting.{is_meant, modified_by, modified_entries};
-ghost use Rattle.of_table.specs.Spans.{Outside};
-ghost use Rattle.of_table.specs.Copies.{Supply, is_modified, wanted};
+ghost use Rattle.of_table.specs.{Selecting.is_meant, Selecting.modified_by, Selecting.modified_entries, Spans.Outside, Copies.Supply, Copies.is_modified, Copies.wanted};
 ghost use Rattle.of_table.specs.Sound.{AreSoundEntries, are_instructions_fit, is_entry_fit, is_checked};
 ghost use Rattle.of_actions.specs.FlowCheck.{all_go_with};
 

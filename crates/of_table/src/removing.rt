@@ -4,8 +4,8 @@ ghost use Rattle.std.specs.Prelude.{IsTrue, if◌then◌else◌, ◌≡◌, ◌+
 ghost use Rattle.std.specs.Option.{option_map};
 ghost use Rattle.of_wire.specs.Numbered.{is_used, without};
 ghost use Rattle.of_classifier.specs.Rows.{row_number};
-ghost use Rattle.of_table.specs.Entries.{entry_of, rows_of};
 ghost use Rattle.of_table.specs.Selecting.{stays, reason_of, told_by, numbered_notices, numbered_notice_of, all_told, kept_of};
+ghost use Rattle.of_table.specs.Entries.{entry_of, rows_of};
 
 use crate::entry::Entry;
 use crate::selection::{Cause, Removed, reason};

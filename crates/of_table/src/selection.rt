@@ -1,10 +1,8 @@
 //! Which entries a command selects, or are removed at a moment or with a group.
 
-ghost use Rattle.std.specs.Prelude.{◌≡◌};
-ghost use Rattle.of_table.specs.Entries.{entry_of};
-ghost use Rattle.std.specs.List.{list_any};
-ghost use Rattle.of_table.specs.Tables.{is_in as is_within, concerns as concerning};
+ghost use Rattle.std.specs.{Prelude.◌≡◌, List.list_any};
 ghost use Rattle.of_table.specs.Selecting.{leads_to as leading_to, passes_port as passing_port, has_action as with_action, names_group as naming, passes_group as passing_group, modifies as modified_by_it, selects as selected, is_over as over, reason_of};
+ghost use Rattle.of_table.specs.{Entries.entry_of, Tables.is_in as is_within, Tables.concerns as concerning};
 
 use crate::entry::Entry;
 use of_actions::{Action, Instruction};

@@ -1,8 +1,6 @@
 //! Walks over the entries of a table.
 
-ghost use Rattle.std.specs.Prelude.{◌≡◌, slice_get};
-ghost use Rattle.std.specs.Option.{option_copied};
-ghost use Rattle.std.specs.Iterator.{YieldsFirstRef, item_count};
+ghost use Rattle.std.specs.{Prelude.◌≡◌, Prelude.slice_get, Option.option_copied, Iterator.YieldsFirstRef, Iterator.item_count};
 
 use crate::entry::Entry;
 use std::marker::Model;

@@ -1,11 +1,9 @@
 -- What a network in memory records.
 use Rattle.std.specs.Prelude.{List, map, Option, Some, None, if◌then◌else◌}
 use Rattle.of_switch.specs.declared.event.Event.TheVariants.{Ports}
-use Rattle.of_test_peers.specs.declared.network.Line.{Line}
+use Rattle.of_test_peers.specs.{declared.network.Line.Line, declared.network.Passed.Passed, declared.network.MemoryNetwork.MemoryNetwork}
 use Rattle.of_test_peers.specs.declared.network.Line.TheVariants as line
-use Rattle.of_test_peers.specs.declared.network.Passed.{Passed}
 use Rattle.of_test_peers.specs.declared.network.Passed.TheVariants as passed
-use Rattle.of_test_peers.specs.declared.network.MemoryNetwork.{MemoryNetwork}
 use Rattle.of_live.specs.Inputs.{Came, Time, Datagram, Opened, Heard, Ended, Ready, Row, Nothing, Fault}
 use Rattle.of_live.specs.Acts.{Act, Told, Drops, Logs, Sends, Writes, Closes}
 

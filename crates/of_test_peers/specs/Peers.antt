@@ -1,9 +1,8 @@
 -- What peers and a clock in memory record.
 use Rattle.std.specs.Prelude.{◌+◌, List, ◌++◌, map, take, replicate}
 use Rattle.of_replay.specs.Told.{Gave, Idle, Ended, Failed}
-use Rattle.of_test_peers.specs.declared.peers.Line.{Line}
+use Rattle.of_test_peers.specs.{declared.peers.Line.Line, declared.peers.MemoryPeers.MemoryPeers}
 use Rattle.of_test_peers.specs.declared.peers.Line.TheVariants as line
-use Rattle.of_test_peers.specs.declared.peers.MemoryPeers.{MemoryPeers}
 use Rattle.of_serve.specs.Told.{PeerCame, Opened, Answered}
 
 abbrev pub line_came : Line → PeerCame

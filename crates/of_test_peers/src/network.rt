@@ -1,8 +1,8 @@
 //! A network in memory, which tells what its script says and records what passes.
 ghost use Rattle.std.specs.Prelude.{◌≡◌, ◌≤◌, ◌∷◌, ◌++◌, [], length, take, Some, IfOk, IfSome, IsTrue};
 ghost use Rattle.of_test_peers.specs.Network.{act_of, came_of_line, passed_acts};
-ghost use Rattle.of_live.specs.Inputs.{Fault, IsInput, came_of};
 ghost use Rattle.of_live.specs.Acts.{Act, Logs, Records, Sends, Told, Writes};
+ghost use Rattle.of_live.specs.Inputs.{Fault, IsInput, came_of};
 
 use of_live::{Dropped, Endpoint, Input, Network, Wanted, Written};
 use of_switch::{Event, PortChange};

@@ -1,7 +1,6 @@
 //! Peers and a clock in memory, of which each accept, read and write can be made to fail.
-ghost use Rattle.std.specs.Bool.{OnTrue};
-ghost use Rattle.std.specs.Option.{option_map};
 ghost use Rattle.std.specs.Prelude.{◌≡◌, ◌++◌, ◌+◌, ◌<◌, ◌≤◌, ◌^◌, ◌∷◌, [], None, Some, length, slice_get, take, min, IfOk, OnOk, OnErr};
+ghost use Rattle.std.specs.{Bool.OnTrue, Option.option_map};
 
 use of_replay::{Reading, Writing};
 use of_serve::{Accepted, Clock, Peers};

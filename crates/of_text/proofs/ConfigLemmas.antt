@@ -1,31 +1,19 @@
 -- Flows, table by table.
 use Rattle.std.proofs.Common.{◌≡◌, ℕ, suc, zero, ◌+◌, ◌<◌, ◌≤◌, eqb, Bool, true, false, cond, List, [], ◌∷◌, ◌++◌, length, Option, Some, None, refl, sym, ◌∙◌, ap, append_assoc, arith}
-use Rattle.std.specs.Prelude.{map, filter, IsSome}
-use Rattle.std.specs.List.{AllByRecursion, flat_map}
-use Rattle.std.specs.Option.{option_map, option_map_or}
-use Rattle.std.proofs.lemmas.Bool.{eq-eqb, ne_eqb, eqb-true}
-use Rattle.std.proofs.lemmas.List.{append-nil}
-use Rattle.std.proofs.lemmas.List.Elements.{filter-append}
-use Rattle.of_wire.specs.declared.code.Code.{Code}
-use Rattle.of_wire.specs.Refusals.{first_of}
-use Rattle.of_lines.specs.declared.row.Row.{Row}
-use Rattle.of_lines.specs.declared.row.Row.TheVariants as rows
-use Rattle.of_lines.specs.Lines.{lines_of}
-use Rattle.of_lines.specs.Rows.{Fits}
-use Rattle.of_lines.specs.declared.order.Place.{Place}
-use Rattle.of_lines.specs.declared.order.Place.TheVariants.{Start, InGroup, InBucket, InFlow}
-use Rattle.of_lines.specs.declared.row.FlowHead.{FlowHead}
-use Rattle.of_text.specs.Groups.{TextGroup, rows_of_groups}
-use Rattle.of_lines.specs.Reading.{◌>>=◌}
+use Rattle.std.specs.{Prelude.map, Prelude.filter, Prelude.IsSome, List.AllByRecursion, List.flat_map, Option.option_map, Option.option_map_or}
+use Rattle.std.proofs.{lemmas.Bool.eq-eqb, lemmas.Bool.ne_eqb, lemmas.Bool.eqb-true, lemmas.List.append-nil, lemmas.List.Elements.filter-append}
+use Rattle.of_wire.specs.{declared.code.Code.Code, Refusals.first_of}
 use Rattle.of_lines.specs.Order.{start_place, following, following_all, flow_next, flow_standing}
+use Rattle.of_lines.specs.{declared.row.Row.Row, Lines.lines_of, Rows.Fits, declared.order.Place.Place}
+use Rattle.of_lines.specs.declared.order.Place.TheVariants.{Start, InGroup, InBucket, InFlow}
+use Rattle.of_lines.specs.{declared.row.FlowHead.FlowHead, Reading.◌>>=◌}
+use Rattle.of_lines.specs.declared.row.Row.TheVariants as rows
 use Rattle.of_text.specs.Flows.{Flow, flow_rows, rows_of_all_flows, instruction_rows, text_rows}
-use Rattle.of_text.specs.Refusals.{all_there, flow_refusals, table_refusals}
-use Rattle.of_text.specs.Texts.{AreRows}
 use Rattle.of_text.specs.First.{flows_for, refusals_behind, refused_from, refused_group, first_refusal}
 use Rattle.of_text.specs.Configs.{Configuration, tables_from, tables_of_flows, IsConfig, EncodeConfig, all_flows, config_text}
 use Rattle.of_text.proofs.TextLemmas.{all_front, all_back, all_both, standing_both, flow_both, some_front, one_list}
-use Rattle.of_text.proofs.GatherLemmas.{all_in_flow}
-use Rattle.of_text.proofs.WriteLemmas.{text_encodes}
+use Rattle.of_text.specs.{Groups.TextGroup, Groups.rows_of_groups, Refusals.all_there, Refusals.flow_refusals, Refusals.table_refusals, Texts.AreRows}
+use Rattle.of_text.proofs.{GatherLemmas.all_in_flow, WriteLemmas.text_encodes}
 
 -- ---- the flows of a table
 

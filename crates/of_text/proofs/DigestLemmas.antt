@@ -1,20 +1,10 @@
 -- Flows of one table, priority and match have the same digest.
 use Rattle.std.proofs.Common.{◌≡◌, ℕ, ◌<◌, eqb, Bool, true, false, cond, List, [], ◌∷◌, ◌++◌, length, get_or, set, refl, sym, ap, ◌∙◌}
-use Rattle.std.specs.Prelude.{◌&&◌, slice_index_or}
-use Rattle.std.specs.HashSet.{HashSet, contains}
-use Rattle.std.specs.List.{list_any}
-use Rattle.std.specs.Cmp.Lexicographic.{pointwise}
-use Rattle.std.proofs.lemmas.Bool.{eqb-true, eq-eqb}
-use Rattle.std.proofs.lemmas.List.{get_or-set_same, get_or-set_other}
-use Rattle.std.proofs.lemmas.List.Folds.{list_any-append}
-use Rattle.of_oxm.specs.SameMatch.{is_same_match}
+use Rattle.std.specs.{Prelude.◌&&◌, Prelude.slice_index_or, HashSet.HashSet, HashSet.contains, List.list_any, Cmp.Lexicographic.pointwise}
+use Rattle.std.proofs.{lemmas.Bool.eqb-true, lemmas.Bool.eq-eqb, lemmas.List.get_or-set_same, lemmas.List.get_or-set_other, lemmas.List.Folds.list_any-append}
+use Rattle.of_oxm.{specs.SameMatch.is_same_match, specs.declared.match_field.MatchField.MatchField, proofs.Same.same_fields, proofs.Same.same_match}
 use Rattle.of_oxm.specs.contracts.match_field.MatchFieldPartialEq.TheImpl as the_match_field
-use Rattle.of_oxm.specs.declared.match_field.MatchField.{MatchField}
-use Rattle.of_oxm.proofs.Same.{same_fields, same_match}
-use Rattle.of_text.specs.Flows.{Flow}
-use Rattle.of_text.specs.Refusals.{has_same_match}
-use Rattle.of_text.specs.Configs.{with_flow_in_table}
-use Rattle.of_text.specs.Digests.{flow_digest, ShowsRepeats}
+use Rattle.of_text.specs.{Flows.Flow, Refusals.has_same_match, Configs.with_flow_in_table, Digests.flow_digest, Digests.ShowsRepeats}
 
 and_both : (a b : Bool) → (a && b) ≡ true → (a ≡ true) × (b ≡ true)
 and_both true b h = (refl, h)

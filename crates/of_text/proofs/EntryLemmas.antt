@@ -1,48 +1,23 @@
 -- Each flow of a configuration is valid in its table.
 use Rattle.std.proofs.Common.{◌≡◌, ℕ, ◌+◌, ◌^◌, ◌<◌, ◌≤◌, eqb, Bool, true, false, cond, List, [], ◌∷◌, ◌++◌, length, take, Option, Some, None, refl, sym, ◌∙◌, ap, subst, arith}
 use Rattle.std.specs.Prelude.{map, not, ◌&&◌, nat_lt, nat_le, bit_and, is_some, IsSome, IfSome, slice_index_or}
-use Rattle.std.specs.List.{AllByRecursion, flat_map, list_all}
-use Rattle.std.specs.Option.{unwrap_or}
-use Rattle.std.proofs.Math.Nat.{mod-eq_of_lt}
-use Rattle.std.proofs.lemmas.Nat.{and_mask}
 use Rattle.std.proofs.lemmas.Bool.{and_parts, and_from, not-false, ne_eqb, ltb-false, leb-true, lt-ltb, le-leb, eqb-true}
-use Rattle.std.proofs.lemmas.List.{take_all, length-append}
-use Rattle.of_wire.specs.declared.code.Code.{Code}
-use Rattle.of_wire.specs.Refusals.{first_of, refusal}
-use Rattle.of_wire.proofs.FirstLemmas.{none_applies}
-use Rattle.of_layers.specs.declared.field.Field.{Field}
+use Rattle.std.{specs.List.AllByRecursion, specs.List.flat_map, specs.List.list_all, specs.Option.unwrap_or, proofs.Math.Nat.mod-eq_of_lt, proofs.lemmas.Nat.and_mask}
+use Rattle.std.proofs.{lemmas.List.take_all, lemmas.List.length-append, lemmas.Bool.Decides.nat_tests}
+use Rattle.of_wire.{specs.declared.code.Code.Code, specs.Refusals.first_of, specs.Refusals.refusal, proofs.FirstLemmas.none_applies}
 use Rattle.of_layers.specs.Fields.{number_of, bit_count, ones_of, is_maskable, is_settable}
-use Rattle.of_layers.proofs.Table.{ones_is}
-use Rattle.of_oxm.specs.declared.match_field.MatchField.{MatchField}
-use Rattle.of_oxm.specs.NormalForm.{IsKept, IsKeptMask, IsAscending, IsMatch}
-use Rattle.of_oxm.specs.Prerequisites.{prerequisites_met}
-use Rattle.of_actions.specs.declared.action.Action.{Action}
-use Rattle.of_actions.specs.declared.action.Action.TheVariants.{Output, PushVlan, SetField}
-use Rattle.of_actions.specs.declared.instruction.Instruction.{Instruction}
+use Rattle.of_layers.{specs.declared.field.Field.Field, proofs.Table.ones_is}
+use Rattle.of_oxm.specs.{declared.match_field.MatchField.MatchField, NormalForm.IsKept, NormalForm.IsKeptMask, NormalForm.IsAscending, NormalForm.IsMatch, Prerequisites.prerequisites_met}
 use Rattle.of_actions.specs.declared.instruction.Instruction.TheVariants.{Apply, Clear, Write, Metadata, Goto}
-use Rattle.of_actions.specs.PortNumbers.{is_port}
-use Rattle.of_actions.specs.Headers.{is_next}
-use Rattle.of_actions.specs.Supported.{is_supported, are_supported}
-use Rattle.of_actions.specs.Rising.{is_ascending}
-use Rattle.of_actions.specs.InstructionLists.{is_served_body, is_for, are_for, run_place}
-use Rattle.of_actions.specs.FlowCheck.{all_go_with}
-use Rattle.of_lines.specs.declared.row.Row.{Row}
+use Rattle.of_actions.specs.{declared.action.Action.Action, declared.action.Action.TheVariants.Output, declared.action.Action.TheVariants.PushVlan, declared.action.Action.TheVariants.SetField}
+use Rattle.of_actions.specs.{declared.instruction.Instruction.Instruction, PortNumbers.is_port, Headers.is_next, Supported.is_supported, Supported.are_supported, Rising.is_ascending}
+use Rattle.of_actions.specs.{InstructionLists.is_served_body, InstructionLists.is_for, InstructionLists.are_for, InstructionLists.run_place, FlowCheck.all_go_with}
+use Rattle.of_lines.specs.{declared.row.Row.Row, Rows.Fits, Rows.ActionFits, Rows.FieldFits, Rows.IsMask, Order.flow_next, Order.flow_standing, Reading.◌>>=◌}
 use Rattle.of_lines.specs.declared.row.Row.TheVariants as rows
-use Rattle.of_lines.specs.Rows.{Fits, ActionFits, FieldFits, IsMask}
-use Rattle.of_lines.specs.Order.{flow_next, flow_standing}
-use Rattle.of_lines.specs.Reading.{◌>>=◌}
-use Rattle.of_text.specs.Groups.{TextGroup}
-use Rattle.of_text.specs.Flows.{Flow, instruction_rows}
 use Rattle.of_text.specs.Refusals.{text_field_refusals, text_action_refusals, list_refusals, instruction_refusals, goto_refusals, match_refusals, instructions_refusals, flow_refusals, table_refusals, or_else}
-use Rattle.of_text.specs.Kept.{IsEntry, StandsBehind, AllStandBehind}
-use Rattle.of_text.specs.First.{flows_for}
-use Rattle.of_text.specs.Configs.{Configuration, IsConfig}
-use Rattle.of_text.proofs.RefusalLemmas.{first_append}
-use Rattle.of_text.proofs.TextLemmas.{all_front, all_back, flow_both, some_front}
-use Rattle.of_text.proofs.KeptLemmas.{actions_stand}
 use Rattle.of_text.proofs.ConfigLemmas.{Stand, in_table, AllFor, all_for, IsWhole, kept_whole, parts_of, flows_stand}
-use Rattle.of_text.proofs.FillLemmas.{table_at}
-use Rattle.std.proofs.lemmas.Bool.Decides.{nat_tests}
+use Rattle.of_text.specs.{Groups.TextGroup, Flows.Flow, Flows.instruction_rows, Kept.IsEntry, Kept.StandsBehind, Kept.AllStandBehind, First.flows_for, Configs.Configuration, Configs.IsConfig}
+use Rattle.of_text.proofs.{RefusalLemmas.first_append, TextLemmas.all_front, TextLemmas.all_back, TextLemmas.flow_both, TextLemmas.some_front, KeptLemmas.actions_stand, FillLemmas.table_at}
 
 -- ---- where none is refused
 

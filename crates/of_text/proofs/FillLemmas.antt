@@ -1,20 +1,12 @@
 -- Tables that flows fill one after the other.
 use Rattle.std.proofs.Common.{◌≡◌, ℕ, suc, zero, ◌+◌, ◌-◌, ◌<◌, eqb, Bool, true, false, List, [], ◌∷◌, ◌++◌, length, get_or, set, vec_len, Some, None, refl, sym, ◌∙◌, ap, append_assoc, arith}
-use Rattle.std.specs.Prelude.{reverse, nat_lt, slice_index_or}
-use Rattle.std.specs.Global.{Vec}
-use Rattle.std.proofs.lemmas.Bool.{eq-eqb, ne_eqb, ltb-false}
 use Rattle.std.proofs.lemmas.List.{append-nil, length-append, length-map, reverse-append, reverse-reverse, length-reverse, map-append, map-set, get_or-map}
+use Rattle.std.{specs.Prelude.reverse, specs.Prelude.nat_lt, specs.Prelude.slice_index_or, specs.Global.Vec, proofs.lemmas.Bool.eq-eqb, proofs.lemmas.Bool.ne_eqb, proofs.lemmas.Bool.ltb-false}
 use Rattle.std.proofs.lemmas.List.Elements.{filter-append}
-use Rattle.of_wire.specs.declared.code.Code.{Code}
-use Rattle.of_wire.specs.Refusals.{first_of}
-use Rattle.of_text.specs.declared.flow.FlowText.{FlowText}
-use Rattle.of_text.specs.declared.group.GroupText.{GroupText}
-use Rattle.of_text.specs.Groups.{TextGroup}
-use Rattle.of_text.specs.Flows.{Flow}
-use Rattle.of_text.specs.Refusals.{flow_refusals, table_refusals}
-use Rattle.of_text.specs.Views.{view, view_flows}
-use Rattle.of_text.specs.First.{flows_for, refusals_behind, refused_from}
+use Rattle.of_wire.specs.{declared.code.Code.Code, Refusals.first_of}
 use Rattle.of_text.specs.Configs.{tables_from, tables_of_flows, IsConfig, with_flow_in_table, view_table, view_tables, view_config}
+use Rattle.of_text.specs.{declared.flow.FlowText.FlowText, declared.group.GroupText.GroupText, Groups.TextGroup, Flows.Flow, Refusals.flow_refusals, Refusals.table_refusals}
+use Rattle.of_text.specs.{Views.view, Views.view_flows, First.flows_for, First.refusals_behind, First.refused_from}
 
 -- ---- one more flow
 

@@ -1,39 +1,21 @@
 -- The groups of a configuration are ones that a switch may have, and those that it may have are in order.
 use Rattle.std.proofs.Common.{◌≡◌, ℕ, ◌+◌, ◌<◌, ◌≤◌, Bool, true, false, cond, List, [], ◌∷◌, ◌++◌, length, take, Option, Some, None, refl, sym, ◌∙◌, ap, append_assoc, arith}
 use Rattle.std.specs.Prelude.{map, not, ◌&&◌, nat_lt, nat_le}
-use Rattle.std.specs.List.{AllByRecursion, flat_map, list_all, list_any}
 use Rattle.std.proofs.lemmas.Bool.{and_parts, and_from, ltb-false, ltb-true, lt-ltb, le-leb}
-use Rattle.std.proofs.lemmas.Bool.Decides.{nat_tests}
+use Rattle.std.{specs.List.AllByRecursion, specs.List.flat_map, specs.List.list_all, specs.List.list_any, proofs.lemmas.Bool.Decides.nat_tests}
 use Rattle.std.proofs.lemmas.List.{take_all, length-map}
-use Rattle.of_wire.specs.declared.code.Code.{Code}
-use Rattle.of_wire.specs.Refusals.{first_of, refusal}
-use Rattle.of_wire.proofs.FirstLemmas.{none_applies}
-use Rattle.of_actions.specs.declared.action.Action.{Action}
-use Rattle.of_actions.specs.Rising.{is_ascending}
-use Rattle.of_groups.specs.declared.group.Group.{Group}
-use Rattle.of_groups.specs.Buckets.{any_sends, are_fit, is_fit}
-use Rattle.of_groups.specs.Groups.{group_number, any_watches}
-use Rattle.of_groups.specs.Chains.{chain, leads}
-use Rattle.of_groups.specs.Faults.{is_absent, is_bad_watch, is_not_one}
-use Rattle.of_groups.specs.Sound.{is_fit_group, is_whole}
-use Rattle.of_groups.proofs.ChainLemmas.{not_long}
-use Rattle.of_lines.specs.declared.order.Place.{Place}
-use Rattle.of_lines.specs.declared.order.Place.TheVariants.{InGroup, InBucket}
-use Rattle.of_lines.specs.declared.row.Row.{Row}
+use Rattle.of_wire.{specs.declared.code.Code.Code, specs.Refusals.first_of, specs.Refusals.refusal, proofs.FirstLemmas.none_applies}
+use Rattle.of_actions.specs.{declared.action.Action.Action, Rising.is_ascending}
+use Rattle.of_groups.specs.{declared.group.Group.Group, Buckets.any_sends, Buckets.are_fit, Buckets.is_fit, Groups.group_number, Groups.any_watches, Chains.chain, Chains.leads}
+use Rattle.of_groups.{specs.Faults.is_absent, specs.Faults.is_bad_watch, specs.Faults.is_not_one, specs.Sound.is_fit_group, specs.Sound.is_whole, proofs.ChainLemmas.not_long}
+use Rattle.of_lines.specs.{declared.order.Place.Place, declared.order.Place.TheVariants.InGroup, declared.order.Place.TheVariants.InBucket, declared.row.Row.Row, Rows.Fits}
+use Rattle.of_lines.specs.{Order.start_place, Order.following, Order.following_all, Reading.◌>>=◌}
 use Rattle.of_lines.specs.declared.row.Row.TheVariants as rows
-use Rattle.of_lines.specs.Rows.{Fits}
-use Rattle.of_lines.specs.Order.{start_place, following, following_all}
-use Rattle.of_lines.specs.Reading.{◌>>=◌}
 use Rattle.of_text.specs.Groups.{TextBucket, TextGroup, bucket_rows, group_rows, rows_of_groups, bucket_of, buckets_of, group_at, groups_at}
-use Rattle.of_text.specs.Flows.{Flow, text_rows}
-use Rattle.of_text.specs.Texts.{AreRows}
 use Rattle.of_text.specs.Refusals.{list_refusals, buckets_refusals, group_refusals, counted_as, there_from, all_there, naming_refusals}
-use Rattle.of_text.specs.First.{refused_group}
-use Rattle.of_text.specs.Kept.{AreKeptGroups, IsKeptFlow}
-use Rattle.of_text.specs.Configs.{Configuration, IsConfig}
-use Rattle.of_text.proofs.TextLemmas.{all_front, all_back}
-use Rattle.of_text.proofs.GatherLemmas.{in_group, next_in, bind_cond}
 use Rattle.of_text.proofs.ConfigLemmas.{both_none, parts_of, rows_from, groups_stand, each_whole}
+use Rattle.of_text.specs.{Flows.Flow, Flows.text_rows, Texts.AreRows, First.refused_group, Kept.AreKeptGroups, Kept.IsKeptFlow, Configs.Configuration, Configs.IsConfig}
+use Rattle.of_text.proofs.{TextLemmas.all_front, TextLemmas.all_back, GatherLemmas.in_group, GatherLemmas.next_in, GatherLemmas.bind_cond}
 use Rattle.of_text.proofs.EntryLemmas.{none_next, none_both, none_each, list_served}
 use Rattle.of_text.proofs.KeptLemmas as flows
 

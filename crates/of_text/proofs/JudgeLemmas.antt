@@ -1,27 +1,14 @@
 -- Groups that are checked one after the other.
 use Rattle.std.proofs.Common.{◌≡◌, ℕ, zero, suc, ◌+◌, ◌<◌, Bool, true, List, [], ◌∷◌, ◌++◌, length, take, drop, get_or, Option, Some, None, refl, sym, ◌∙◌, ap, append_assoc, arith}
-use Rattle.std.specs.Prelude.{map, nat_lt}
-use Rattle.std.specs.List.{AllByRecursion, flat_map}
-use Rattle.std.proofs.lemmas.List.{length-map, get_or-map, take-map}
-use Rattle.of_wire.specs.declared.code.Code.{Code}
-use Rattle.of_wire.specs.Refusals.{first_of, refusal}
-use Rattle.of_groups.specs.declared.group.Group.{Group}
-use Rattle.of_groups.specs.Buckets.{are_fit, any_sends}
-use Rattle.of_groups.specs.Groups.{any_watches}
-use Rattle.of_groups.specs.Chains.{chain}
-use Rattle.of_groups.specs.Faults.{is_absent}
-use Rattle.of_text.specs.declared.group.BucketText.{BucketText}
-use Rattle.of_text.specs.declared.group.GroupText.{GroupText}
-use Rattle.of_lines.specs.Rows.{Fits}
+use Rattle.std.{specs.Prelude.map, specs.Prelude.nat_lt, specs.List.AllByRecursion, specs.List.flat_map, proofs.lemmas.List.length-map, proofs.lemmas.List.get_or-map, proofs.lemmas.List.take-map}
+use Rattle.of_wire.specs.{declared.code.Code.Code, Refusals.first_of, Refusals.refusal}
+use Rattle.of_groups.specs.{declared.group.Group.Group, Buckets.are_fit, Buckets.any_sends, Groups.any_watches, Chains.chain, Faults.is_absent}
 use Rattle.of_text.specs.Groups.{TextBucket, TextGroup, group_rows, buckets_of, group_at}
 use Rattle.of_text.specs.Refusals.{or_else, list_refusals, buckets_refusals, group_refusals, counted_as, there_from, all_there, naming_refusals}
-use Rattle.of_text.specs.First.{refused_group}
-use Rattle.of_text.specs.Judging.{told_refusals, kept_refusals, codes_from}
-use Rattle.of_text.specs.Views.{view_bucket, view_group, view_groups}
-use Rattle.of_text.proofs.RefusalLemmas.{first_append, mapped_flat}
-use Rattle.of_text.proofs.EntryLemmas.{none_next}
-use Rattle.of_text.proofs.GroupLemmas.{buckets_fit}
-use Rattle.of_text.proofs.WriteLemmas.{next_group}
+use Rattle.of_text.specs.{declared.group.BucketText.BucketText, declared.group.GroupText.GroupText, First.refused_group, Judging.told_refusals, Judging.kept_refusals, Judging.codes_from}
+use Rattle.of_text.{specs.Views.view_bucket, specs.Views.view_group, specs.Views.view_groups, proofs.RefusalLemmas.first_append, proofs.RefusalLemmas.mapped_flat, proofs.EntryLemmas.none_next}
+use Rattle.of_text.proofs.{GroupLemmas.buckets_fit, WriteLemmas.next_group}
+use Rattle.of_lines.specs.Rows.{Fits}
 
 in_parts : (place : ℕ) (g : TextGroup) → first_of (group_refusals place g) ≡ or_else (first_of (told_refusals g)) (first_of (kept_refusals place (group_at 0 g)))
 unfolding group_refusals

@@ -1,13 +1,8 @@
 -- Lists that are made element by element, and the bounds of their lines.
 use Rattle.std.proofs.Common.{◌≡◌, ℕ, zero, suc, ◌+◌, ◌<◌, Bool, true, List, [], ◌∷◌, ◌++◌, length, drop, get_or, refl, sym, ◌∙◌, ap, append_assoc, add-one, drop-cons, arith}
-use Rattle.std.specs.Prelude.{map, nat_le}
-use Rattle.std.specs.List.{AllByRecursion, flat_map, list_all}
-use Rattle.std.proofs.lemmas.Bool.{and_parts}
-use Rattle.std.proofs.lemmas.List.{map-append}
-use Rattle.of_groups.specs.declared.bucket.Bucket.{Bucket}
-use Rattle.of_groups.specs.Buckets.{are_fit, is_fit}
-use Rattle.of_lines.specs.declared.row.Row.{Row}
-use Rattle.of_lines.specs.Rows.{Fits}
+use Rattle.std.{specs.Prelude.map, specs.Prelude.nat_le, specs.List.AllByRecursion, specs.List.flat_map, specs.List.list_all, proofs.lemmas.Bool.and_parts, proofs.lemmas.List.map-append}
+use Rattle.of_groups.specs.{declared.bucket.Bucket.Bucket, Buckets.are_fit, Buckets.is_fit}
+use Rattle.of_lines.specs.{declared.row.Row.Row, Rows.Fits}
 use Rattle.of_text.proofs.TextLemmas.{all_front, all_back, all_both}
 
 -- one more element, which is seen as the next one is

@@ -1,9 +1,7 @@
 -- One element more of a loop that writes what each gives.
 use Rattle.std.proofs.Common.{◌≡◌, ℕ, ◌+◌, ◌<◌, ◌≤◌, Bool, true, List, [], ◌∷◌, ◌++◌, length, take, drop, get_or, sym, ap, subst, ◌∙◌, append_assoc}
-use Rattle.std.specs.Prelude.{map}
-use Rattle.std.specs.List.{flat_map, AllByRecursion, list_all}
-use Rattle.std.proofs.lemmas.Bool.{and_parts}
 use Rattle.std.proofs.lemmas.List.{append-nil, at_drop_all, map_more, drop_more, flat_map_more}
+use Rattle.std.{specs.Prelude.map, specs.List.flat_map, specs.List.AllByRecursion, specs.List.list_all, proofs.lemmas.Bool.and_parts}
 
 -- by one row for each
 pub pushed : {X Y : Type 0} (f : X → Y) (start had new : List Y) (xs : List X) (i : ℕ) (d : X) → i < length xs → had ≡ start ++ map f (take i xs) → new ≡ had ++ f (get_or xs i d) ∷ [] →

@@ -1,21 +1,11 @@
 -- Groups are sound whenever they were added.
 use Rattle.std.proofs.Common.{◌≡◌, ℕ, eqb, Bool, true, false, cond, List, [], ◌∷◌, ◌++◌, length, drop, get_or, Some, refl, sym, ◌∙◌, ap, subst, append_assoc, ◌<◌, ◌+◌, arith}
-use Rattle.std.specs.Prelude.{not, nat_lt, ◌&&◌, ◌||◌}
-use Rattle.std.specs.List.{list_all}
-use Rattle.std.specs.Option.{option_map_or}
-use Rattle.std.proofs.lemmas.Bool.{and_parts}
-use Rattle.std.proofs.lemmas.List.{length-map}
-use Rattle.std.proofs.Math.Path.{fun_ext}
+use Rattle.std.{specs.Prelude.not, specs.Prelude.nat_lt, specs.Prelude.◌&&◌, specs.Prelude.◌||◌, specs.List.list_all, specs.Option.option_map_or, proofs.lemmas.Bool.and_parts}
+use Rattle.std.proofs.{lemmas.List.length-map, Math.Path.fun_ext}
 use Rattle.of_actions.specs.Rising.{is_ascending}
-use Rattle.of_groups.specs.declared.group.Group.{Group}
-use Rattle.of_groups.specs.Buckets.{are_fit}
 use Rattle.of_groups.specs.Groups.{group_number, is_there, find_group, names, any_named}
-use Rattle.of_groups.specs.Chains.{names_next, is_chain}
-use Rattle.of_groups.specs.Faults.{is_absent}
-use Rattle.of_groups.specs.Sound.{is_fit_group, is_whole, AreSound}
-use Rattle.of_text.specs.declared.group.GroupText.{GroupText}
-use Rattle.of_text.specs.Groups.{TextGroup, buckets_of, group_at, groups_at}
-use Rattle.of_text.specs.Views.{view_group, view_groups}
+use Rattle.of_groups.specs.{declared.group.Group.Group, Buckets.are_fit, Chains.names_next, Chains.is_chain, Faults.is_absent, Sound.is_fit_group, Sound.is_whole, Sound.AreSound}
+use Rattle.of_text.specs.{declared.group.GroupText.GroupText, Groups.TextGroup, Groups.buckets_of, Groups.group_at, Groups.groups_at, Views.view_group, Views.view_groups}
 use Rattle.of_text.proofs.WriteLemmas.{next_group}
 
 above_same : (c d n : ℕ) (gs : List TextGroup) → list_all (λ (y : Group). nat_lt n (group_number y)) (groups_at c gs) ≡ list_all (λ (y : Group). nat_lt n (group_number y)) (groups_at d gs)

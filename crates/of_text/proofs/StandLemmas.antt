@@ -1,45 +1,25 @@
 -- What a switch keeps is refused for nothing.
 use Rattle.std.proofs.Common.{◌≡◌, ℕ, suc, ◌+◌, ◌<◌, ◌≤◌, eqb, Bool, true, false, List, [], ◌∷◌, ◌++◌, length, take, Option, Some, None, refl, sym, ◌∙◌, ap, arith}
 use Rattle.std.specs.Prelude.{map, not, ◌&&◌, ◌||◌, nat_lt, nat_le, is_some, IfSome, unwrap_or, bit_and}
-use Rattle.std.specs.List.{AllByRecursion, flat_map, list_all}
 use Rattle.std.proofs.lemmas.Bool.{and_parts, and_from, eq-eqb, ne_eqb, leb-true}
-use Rattle.std.proofs.lemmas.Bool.Decides.{nat_tests}
-use Rattle.std.proofs.lemmas.List.{append-nil, take_all, length-map}
-use Rattle.std.proofs.lemmas.List.Elements.{filter-append}
-use Rattle.of_wire.specs.declared.code.Code.{Code}
-use Rattle.of_wire.specs.Refusals.{first_of, refusal}
-use Rattle.of_layers.specs.declared.field.Field.{Field}
-use Rattle.of_layers.specs.Fields.{ones_of, is_settable}
-use Rattle.of_oxm.specs.declared.match_field.MatchField.{MatchField}
-use Rattle.of_oxm.specs.MatchFieldWire.{value_refusals}
-use Rattle.of_oxm.specs.NormalForm.{IsKept, IsKeptMask, IsMatch}
-use Rattle.of_actions.specs.declared.action.Action.{Action}
-use Rattle.of_actions.specs.declared.action.Action.TheVariants.{Output, PushVlan, SetField}
-use Rattle.of_actions.specs.declared.instruction.Instruction.{Instruction}
+use Rattle.std.{specs.List.AllByRecursion, specs.List.flat_map, specs.List.list_all, proofs.lemmas.Bool.Decides.nat_tests}
+use Rattle.std.proofs.{lemmas.List.append-nil, lemmas.List.take_all, lemmas.List.length-map, lemmas.List.Elements.filter-append}
+use Rattle.of_wire.specs.{declared.code.Code.Code, Refusals.first_of, Refusals.refusal}
+use Rattle.of_layers.specs.{declared.field.Field.Field, Fields.ones_of, Fields.is_settable}
+use Rattle.of_oxm.specs.{declared.match_field.MatchField.MatchField, MatchFieldWire.value_refusals, NormalForm.IsKept, NormalForm.IsKeptMask, NormalForm.IsMatch}
 use Rattle.of_actions.specs.declared.instruction.Instruction.TheVariants.{Apply, Clear, Write, Metadata, Goto}
-use Rattle.of_actions.specs.PortNumbers.{is_port}
-use Rattle.of_actions.specs.FlowCheck.{all_go_with}
-use Rattle.of_actions.specs.Rising.{is_ascending}
-use Rattle.of_actions.specs.Supported.{is_supported, are_supported}
+use Rattle.of_actions.specs.{declared.action.Action.Action, declared.action.Action.TheVariants.Output, declared.action.Action.TheVariants.PushVlan, declared.action.Action.TheVariants.SetField}
+use Rattle.of_actions.specs.{declared.instruction.Instruction.Instruction, PortNumbers.is_port, FlowCheck.all_go_with, Rising.is_ascending, Supported.is_supported, Supported.are_supported}
 use Rattle.of_actions.specs.InstructionLists.{is_served_body, is_for, run_place}
-use Rattle.of_groups.specs.declared.group.Group.{Group}
-use Rattle.of_groups.specs.Buckets.{any_sends, are_fit, is_fit}
-use Rattle.of_groups.specs.Groups.{any_watches}
-use Rattle.of_groups.specs.Chains.{AreShort, chain}
-use Rattle.of_groups.specs.Faults.{is_absent, is_bad_watch, is_not_one}
-use Rattle.of_groups.specs.Sound.{is_fit_group, is_whole}
-use Rattle.of_groups.proofs.ChainLaws.{chain_at_most}
+use Rattle.of_groups.specs.{declared.group.Group.Group, Buckets.any_sends, Buckets.are_fit, Buckets.is_fit, Groups.any_watches, Chains.AreShort, Chains.chain}
+use Rattle.of_groups.{specs.Faults.is_absent, specs.Faults.is_bad_watch, specs.Faults.is_not_one, specs.Sound.is_fit_group, specs.Sound.is_whole, proofs.ChainLaws.chain_at_most}
 use Rattle.of_text.specs.Groups.{TextBucket, TextGroup, bucket_of, buckets_of, group_at, groups_at}
-use Rattle.of_text.specs.Flows.{Flow, text_rows}
 use Rattle.of_text.specs.Refusals.{text_field_refusals, text_action_refusals, list_refusals, instruction_refusals, goto_refusals, match_refusals, instructions_refusals, flow_refusals, table_refusals, buckets_refusals, group_refusals, naming_refusals, there_from, all_there}
-use Rattle.of_text.specs.Texts.{AreRows}
-use Rattle.of_text.specs.First.{flows_for, refused_from, refused_group}
 use Rattle.of_text.specs.Kept.{IsKeptFlow, IsEntry, StandsBehind, AllStandBehind, AreKeptGroups}
 use Rattle.of_text.specs.Configs.{Configuration, IsConfig, all_flows, tables_from, tables_of_flows}
-use Rattle.of_text.specs.KeptConfigs.{IsHeaded, AreKeptTables, IsKeptConfig}
-use Rattle.of_text.proofs.RefusalLemmas.{first_append}
 use Rattle.of_text.proofs.ConfigLemmas.{Stand, AllFor, stands_on, same_tables, both_stand}
-use Rattle.of_text.proofs.GroupLemmas.{kept_rows}
+use Rattle.of_text.specs.{Flows.Flow, Flows.text_rows, Texts.AreRows, First.flows_for, First.refused_from, First.refused_group}
+use Rattle.of_text.{specs.KeptConfigs.IsHeaded, specs.KeptConfigs.AreKeptTables, specs.KeptConfigs.IsKeptConfig, proofs.RefusalLemmas.first_append, proofs.GroupLemmas.kept_rows}
 
 -- ---- none applies
 

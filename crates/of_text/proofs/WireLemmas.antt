@@ -1,24 +1,18 @@
 -- The refusals of a field and of an action are those of their encoding on the wire.
 use Rattle.std.proofs.Common.{◌≡◌, ℕ, ◌+◌, ◌-◌, ◌*◌, ◌/◌, ◌%◌, ◌^◌, ◌<◌, ◌≤◌, Bool, true, false, ltb, eqb, List, [], ◌++◌, length, get_or, drop, replicate, Option, Some, None, refl, ap, ◌∙◌, arith}
-use Rattle.std.specs.Prelude.{slice_index, IfSome}
-use Rattle.std.proofs.lemmas.Bool.{le-ltb, eq-eqb}
+use Rattle.std.{specs.Prelude.slice_index, specs.Prelude.IfSome, proofs.lemmas.Bool.le-ltb, proofs.lemmas.Bool.eq-eqb}
 use Rattle.std.proofs.lemmas.List.{append_assoc, length-append, length-replicate, drop_at}
-use Rattle.byteorder.specs.Endian.{big_number, big_bytes}
-use Rattle.byteorder.specs.Numbers.{big_number-reads_back, length-bytes_high_first}
+use Rattle.byteorder.specs.{Endian.big_number, Endian.big_bytes, Numbers.big_number-reads_back, Numbers.length-bytes_high_first}
 use Rattle.of_wire.specs.Refusals.{first_of}
-use Rattle.of_layers.specs.declared.field.Field.{Field}
 use Rattle.of_layers.specs.Fields.{number_of, bytes_of, ones_of, is_settable, field_at}
-use Rattle.of_layers.proofs.Table.{field_at-number_of, bytes_some, bytes_most, value_below}
-use Rattle.of_oxm.specs.declared.match_field.MatchField.{MatchField}
+use Rattle.of_layers.{specs.declared.field.Field.Field, proofs.Table.field_at-number_of, proofs.Table.bytes_some, proofs.Table.bytes_most, proofs.Table.value_below}
 use Rattle.of_oxm.specs.MatchFieldWire.{encoding, is_among, body_len, is_masked_at, number_at, value_at, mask_of_bytes, known_field_refusals}
+use Rattle.of_oxm.specs.declared.match_field.MatchField.{MatchField}
 use Rattle.of_oxm.specs.MatchFieldWire as wire
-use Rattle.of_actions.specs.declared.action.Action.{Action}
-use Rattle.of_actions.specs.declared.action.Action.TheVariants.{Output, PushVlan, SetField}
-use Rattle.of_actions.specs.Beginnings.{type_at, len_at}
 use Rattle.of_actions.specs.SetField.{settable, set_field_at, set_value_at, set_len, set_refusals}
-use Rattle.of_actions.specs.Actions.{type_refusals}
+use Rattle.of_actions.specs.{declared.action.Action.Action, declared.action.Action.TheVariants.Output, declared.action.Action.TheVariants.PushVlan, declared.action.Action.TheVariants.SetField}
+use Rattle.of_actions.specs.{Beginnings.type_at, Beginnings.len_at, Actions.type_refusals, CanonicalActions.canonical_action, CanonicalActions.canonical_set_field}
 use Rattle.of_actions.specs.Actions as actions
-use Rattle.of_actions.specs.CanonicalActions.{canonical_action, canonical_set_field}
 use Rattle.of_lines.specs.Rows.{ActionFits, FieldFits, IsMask}
 use Rattle.of_text.specs.Refusals.{text_field_refusals, text_action_refusals}
 

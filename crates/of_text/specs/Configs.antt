@@ -1,14 +1,8 @@
 -- CONFIGURATIONS: groups in ascending order of number, and the flows of sixteen tables, oldest first (OpenFlow 1.3.5, 5.1, 5.2 and 5.6).
 use Rattle.std.specs.Prelude.{◌≡◌, ℕ, suc, zero, ◌++◌, List, [], ◌∷◌, None, map, slice_set, slice_index_or}
-use Rattle.std.specs.List.{flat_map}
-use Rattle.std.specs.Global.{Vec}
-use Rattle.of_text.specs.declared.flow.FlowText.{FlowText}
-use Rattle.of_text.specs.declared.group.GroupText.{GroupText}
-use Rattle.of_text.specs.Groups.{TextGroup}
-use Rattle.of_text.specs.Flows.{Flow, text_rows}
-use Rattle.of_text.specs.Texts.{EncodeItems, AreRows, groups_and_flows_text}
-use Rattle.of_text.specs.Views.{view_flows, view_groups}
-use Rattle.of_text.specs.First.{flows_for, first_refusal}
+use Rattle.std.specs.{List.flat_map, Global.Vec}
+use Rattle.of_text.specs.{declared.flow.FlowText.FlowText, declared.group.GroupText.GroupText, Groups.TextGroup, Flows.Flow, Flows.text_rows}
+use Rattle.of_text.specs.{Texts.EncodeItems, Texts.AreRows, Texts.groups_and_flows_text, Views.view_flows, Views.view_groups, First.flows_for, First.first_refusal}
 
 -- n tables, from this one on, each with its flows, in their order
 abbrev pub tables_from : ℕ → ℕ → List Flow → List (List Flow)

@@ -1,11 +1,8 @@
 -- A NUMBER OF A FLOW that is the same for flows of one table, priority and match: flows with different numbers need not be compared.
 use Rattle.std.specs.Prelude.{◌≡◌, ℕ, ◌+◌, ◌*◌, ◌%◌, ◌^◌, false, List, [], nat_eq, slice_index_or}
-use Rattle.std.specs.HashSet.{HashSet, contains}
-use Rattle.std.specs.List.{fold, list_any}
-use Rattle.std.specs.Option.{unwrap_or}
+use Rattle.std.specs.{HashSet.HashSet, HashSet.contains, List.fold, List.list_any, Option.unwrap_or}
 use Rattle.of_oxm.specs.declared.match_field.MatchField.{MatchField}
-use Rattle.of_text.specs.Flows.{Flow}
-use Rattle.of_text.specs.Refusals.{has_same_match}
+use Rattle.of_text.specs.{Flows.Flow, Refusals.has_same_match}
 
 unfoldable pub field_mixed : ℕ → MatchField → ℕ
 field_mixed sum e = (((((sum * 1000003) % 2 ^ 128 + e.value) % 2 ^ 128) * 1000003) % 2 ^ 128 + unwrap_or e.mask 0) % 2 ^ 128

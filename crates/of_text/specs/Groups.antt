@@ -1,12 +1,8 @@
 -- Groups as text has them, and the lines that they are (OpenFlow 1.3.5, 5.6 and 7.3.4.2).
-use Rattle.std.specs.Prelude.{ℕ, List, ◌∷◌, map}
-use Rattle.std.specs.List.{flat_map}
+use Rattle.std.specs.{Prelude.ℕ, Prelude.List, Prelude.◌∷◌, Prelude.map, List.flat_map}
 use Rattle.of_actions.specs.declared.action.Action.{Action}
-use Rattle.of_groups.specs.declared.bucket.Bucket.{Bucket}
-use Rattle.of_groups.specs.declared.group.Group.{Group}
-use Rattle.of_lines.specs.declared.row.BucketHead.{BucketHead}
-use Rattle.of_lines.specs.declared.row.GroupHead.{GroupHead}
-use Rattle.of_lines.specs.declared.row.Row.{Row}
+use Rattle.of_groups.specs.{declared.bucket.Bucket.Bucket, declared.group.Group.Group}
+use Rattle.of_lines.specs.{declared.row.BucketHead.BucketHead, declared.row.GroupHead.GroupHead, declared.row.Row.Row}
 use Rattle.of_lines.specs.declared.row.Row.TheVariants as rows
 
 pub record TextBucket : Type 0 where

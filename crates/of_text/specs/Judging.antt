@@ -2,12 +2,9 @@
 use Rattle.std.specs.Prelude.{ℕ, ◌+◌, ◌∷◌, nat_le, nat_lt, Bool, List, [], Option}
 use Rattle.of_wire.specs.declared.limits.TheConstants.{OFPG_MAX}
 use Rattle.of_wire.specs.declared.codes.TheConstants.{OFPGMFC_BAD_WATCH, OFPGMFC_INVALID_GROUP, OFPGMFC_OUT_OF_GROUPS}
-use Rattle.of_wire.specs.declared.code.Code.{Code}
-use Rattle.of_wire.specs.Refusals.{first_of}
-use Rattle.of_groups.specs.declared.group.Group.{Group}
-use Rattle.of_groups.specs.Faults.{is_bad_watch, is_not_one}
-use Rattle.of_text.specs.Groups.{TextGroup}
-use Rattle.of_text.specs.Refusals.{buckets_refusals, group_refusals}
+use Rattle.of_wire.specs.{declared.code.Code.Code, Refusals.first_of}
+use Rattle.of_groups.specs.{declared.group.Group.Group, Faults.is_bad_watch, Faults.is_not_one}
+use Rattle.of_text.specs.{Groups.TextGroup, Refusals.buckets_refusals, Refusals.group_refusals}
 
 -- what the message alone decides
 abbrev pub told_refusals : TextGroup → List (Bool × Code)

@@ -2,10 +2,7 @@
 use Rattle.std.specs.Prelude.{◌≡◌, ℕ, suc, List, [], ◌∷◌, length}
 use Rattle.std.specs.List.{AllByRecursion}
 use Rattle.of_lines.specs.Rows.{HeadFits}
-use Rattle.of_text.specs.Groups.{TextGroup}
-use Rattle.of_text.specs.Flows.{Flow}
-use Rattle.of_text.specs.Kept.{AllStandBehind, AreKeptGroups, IsEntry}
-use Rattle.of_text.specs.Configs.{Configuration}
+use Rattle.of_text.specs.{Groups.TextGroup, Flows.Flow, Kept.AllStandBehind, Kept.AreKeptGroups, Kept.IsEntry, Configs.Configuration}
 
 -- a flow of the table, whose numbers are within their bounds
 abbrev pub IsHeaded : ℕ → Flow → Type 0

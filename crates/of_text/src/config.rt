@@ -1,8 +1,7 @@
 //! Configurations.
 ghost use Rattle.std.specs.Prelude.{◌≡◌, ◌<◌, ◌≤◌, ℕ, [], length, slice_index_or, IfOk, OnOk};
 ghost use Rattle.std.specs.List.{AllByRecursion};
-ghost use Rattle.of_text.specs.Kept.{AreKeptGroups, IsEntry, AllStandBehind};
-ghost use Rattle.of_text.specs.Configs.{IsConfig, tables_of_flows, with_flow_in_table, view_tables};
+ghost use Rattle.of_text.specs.{Kept.AreKeptGroups, Kept.IsEntry, Kept.AllStandBehind, Configs.IsConfig, Configs.tables_of_flows, Configs.with_flow_in_table, Configs.view_tables};
 ghost use Rattle.of_text.specs.Views.{view, view_flows, view_groups};
 
 use crate::flow::FlowText;

@@ -1,7 +1,6 @@
 //! Digests of flows, by which flows of the same table, priority and match are found.
 ghost use Rattle.std.specs.Prelude.{◌≡◌};
-ghost use Rattle.of_text.specs.Digests.{field_mixed, flow_digest};
-ghost use Rattle.of_text.specs.Views.{view};
+ghost use Rattle.of_text.specs.{Digests.field_mixed, Digests.flow_digest, Views.view};
 
 use crate::flow::FlowText;
 use of_oxm::MatchField;

@@ -1,14 +1,10 @@
 //! Configurations to text.
 ghost use Rattle.std.specs.Prelude.{◌≡◌, ◌++◌, ℕ, List, IfOk, OnOk, MatchResult};
 ghost use Rattle.std.specs.List.{AllByRecursion};
-ghost use Rattle.of_text.specs.Groups.{group_rows, rows_of_groups};
-ghost use Rattle.of_text.specs.Flows.{rows_of_all_flows, flow_rows};
-ghost use Rattle.of_lines.specs.Lines.{lines_of};
-ghost use Rattle.of_lines.specs.Rows.{Fits};
-ghost use Rattle.of_text.specs.Texts.{lines_text};
-ghost use Rattle.of_text.specs.Views.{view, view_flows, view_group, view_groups};
 ghost use Rattle.of_text.specs.Configs.{Configuration, IsConfig, EncodeConfig, all_flows, config_text, view_tables};
-ghost use Rattle.of_text.specs.declared.assembling.TextFault.TheVariants.{NoMemory};
+ghost use Rattle.of_text.specs.{Groups.group_rows, Groups.rows_of_groups, Flows.rows_of_all_flows, Flows.flow_rows, Texts.lines_text};
+ghost use Rattle.of_text.specs.{Views.view, Views.view_flows, Views.view_group, Views.view_groups, declared.assembling.TextFault.TheVariants.NoMemory};
+ghost use Rattle.of_lines.specs.{Lines.lines_of, Rows.Fits};
 
 use crate::assembling::{TextFault, assemble};
 use crate::config::Config;

@@ -2,8 +2,7 @@
 ghost use Rattle.std.specs.Prelude.{◌≡◌, true, false, IsTrue, IfOk, map};
 ghost use Rattle.std.specs.List.{list_all};
 ghost use Rattle.of_oxm.specs.NormalForm.{IsMatch};
-ghost use Rattle.of_actions.specs.InstructionLists.{are_kept, is_served_body};
-ghost use Rattle.of_actions.specs.Supported.{are_supported};
+ghost use Rattle.of_actions.specs.{InstructionLists.are_kept, InstructionLists.is_served_body, Supported.are_supported};
 ghost use Rattle.of_text.specs.Views.{view, view_instruction};
 
 use crate::flow::{FlowText, InstructionText};

@@ -1,7 +1,6 @@
 //! Groups and flows from lines.
 ghost use Rattle.std.specs.Prelude.{◌≡◌, [], ◌∷◌, OnOk, IfOk, reverse};
-ghost use Rattle.of_text.specs.Flows.{gather_line as gather_row, gathered_rows, nothing_gathered};
-ghost use Rattle.of_text.specs.Views.{view_flows, view_groups, view_instruction, seen_gathering};
+ghost use Rattle.of_text.specs.{Flows.gather_line as gather_row, Flows.gathered_rows, Flows.nothing_gathered, Views.view_flows, Views.view_groups, Views.view_instruction, Views.seen_gathering};
 
 use crate::flow::{FlowText, InstructionText};
 use crate::group::{BucketText, GroupText};

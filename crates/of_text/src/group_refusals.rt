@@ -1,17 +1,12 @@
 //! The refusals of a group.
 ghost use Rattle.std.specs.Prelude.{◌≡◌, ◌++◌, ◌∷◌, [], ℕ, List, true, false, length, nat_le, nat_lt, not, map, take, IfOk, slice_index_or};
 ghost use Rattle.std.specs.List.{AllByRecursion, flat_map};
-ghost use Rattle.of_wire.specs.declared.code.Code.{Code as ACode};
-ghost use Rattle.of_wire.specs.Refusals.{first_of};
-ghost use Rattle.of_groups.specs.Buckets.{any_sends};
-ghost use Rattle.of_groups.specs.Groups.{any_watches};
-ghost use Rattle.of_groups.specs.Faults.{is_absent, is_bad_watch, is_not_one};
-ghost use Rattle.of_text.specs.Groups.{TextGroup, bucket_rows, group_rows, rows_of_groups};
-ghost use Rattle.of_lines.specs.Rows.{Fits};
+ghost use Rattle.of_wire.specs.{declared.code.Code.Code as ACode, Refusals.first_of};
+ghost use Rattle.of_groups.specs.{Buckets.any_sends, Groups.any_watches, Faults.is_absent, Faults.is_bad_watch, Faults.is_not_one};
 ghost use Rattle.of_text.specs.Refusals.{all_there, buckets_refusals as refusals_of_buckets, counted_as, group_refusals, list_refusals, naming_refusals};
-ghost use Rattle.of_text.specs.First.{refused_group};
-ghost use Rattle.of_text.specs.Judging.{codes_from, kept_refusals, told_refusals};
+ghost use Rattle.of_text.specs.{Groups.TextGroup, Groups.bucket_rows, Groups.group_rows, Groups.rows_of_groups, First.refused_group, Judging.codes_from, Judging.kept_refusals, Judging.told_refusals};
 ghost use Rattle.of_text.specs.Views.{view_bucket, view_group, view_groups};
+ghost use Rattle.of_lines.specs.Rows.{Fits};
 
 use crate::group::{BucketText, GroupText};
 use crate::refusals::{applied, first, list_refusal};

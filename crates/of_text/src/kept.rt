@@ -1,15 +1,11 @@
 //! Groups, flows and configurations of text, from those that a switch keeps.
 ghost use Rattle.std.specs.Prelude.{◌≡◌, ◌<◌, ◌^◌, true, false, IsTrue, IfOk, map};
 ghost use Rattle.std.specs.List.{AllByRecursion, flat_map};
-ghost use Rattle.of_actions.specs.InstructionLists.{are_kept};
-ghost use Rattle.of_actions.specs.Supported.{are_supported};
+ghost use Rattle.of_actions.specs.{InstructionLists.are_kept, Supported.are_supported};
 ghost use Rattle.of_groups.specs.Buckets.{are_fit};
-ghost use Rattle.of_text.specs.Configs.{Configuration, IsConfig, view_config};
-ghost use Rattle.of_text.specs.Groups.{bucket_rows, bucket_text as text_of_bucket, group_rows, group_text};
-ghost use Rattle.of_text.specs.Kept.{IsKeptFlow};
-ghost use Rattle.of_text.specs.KeptConfigs.{IsKeptConfig};
+ghost use Rattle.of_text.specs.{Configs.Configuration, Configs.IsConfig, Configs.view_config, Groups.bucket_rows, Groups.bucket_text as text_of_bucket, Groups.group_rows, Groups.group_text};
+ghost use Rattle.of_text.specs.{Kept.IsKeptFlow, KeptConfigs.IsKeptConfig, Views.view, Views.view_bucket, Views.view_group, Views.view_instruction};
 ghost use Rattle.of_lines.specs.Rows.{BucketFits, Fits};
-ghost use Rattle.of_text.specs.Views.{view, view_bucket, view_group, view_instruction};
 
 use crate::config::Config;
 use crate::flow::{FlowText, InstructionText};

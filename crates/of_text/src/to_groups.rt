@@ -1,9 +1,7 @@
 //! Groups of a configuration as a switch keeps them.
-ghost use Rattle.std.specs.Prelude.{◌≡◌, true, IfOk};
-ghost use Rattle.std.specs.List.{list_all};
+ghost use Rattle.std.specs.{Prelude.◌≡◌, Prelude.true, Prelude.IfOk, List.list_all};
 ghost use Rattle.of_groups.specs.Sound.{is_fit_group};
-ghost use Rattle.of_text.specs.Groups.{groups_at};
-ghost use Rattle.of_text.specs.Views.{view_groups};
+ghost use Rattle.of_text.specs.{Groups.groups_at, Views.view_groups};
 
 use crate::config::Config;
 use crate::group::GroupText;

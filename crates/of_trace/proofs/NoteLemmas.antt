@@ -1,41 +1,26 @@
 -- What is below a line is notes, whatever it says.
 use Rattle.std.proofs.Common.{◌≡◌, ◌==◌, ◌&&◌, ℕ, suc, Bool, true, false, cond, List, [], ◌∷◌, ◌++◌, Option, Some, None, refl, sym, ap, ◌∙◌}
-use Rattle.std.specs.Prelude.{codes, decimal, nat_lt}
-use Rattle.std.specs.List.{flat_map}
-use Rattle.std.proofs.lemmas.List.{append_assoc, append-nil}
+use Rattle.std.{specs.Prelude.codes, specs.Prelude.decimal, specs.Prelude.nat_lt, specs.List.flat_map, proofs.lemmas.List.append_assoc, proofs.lemmas.List.append-nil}
 use Rattle.std.proofs.lemmas.List.Concat.{flat_map-append}
-use Rattle.of_layers.specs.declared.field.Field.{Field}
+use Rattle.of_layers.specs.{declared.field.Field.Field, Fields.name_of}
 use Rattle.of_layers.specs.declared.field.TheConstants.Field as constants
-use Rattle.of_actions.specs.declared.action.Action.{Action}
-use Rattle.of_actions.specs.declared.action.Action.TheVariants.{Group}
+use Rattle.of_actions.specs.{declared.action.Action.Action, declared.action.Action.TheVariants.Group}
 use Rattle.of_oxm.specs.declared.match_field.MatchField.{MatchField}
-use Rattle.of_table.specs.declared.flow.Flow.{Flow}
-use Rattle.of_table.specs.Table.{FlowEntry}
-use Rattle.of_table.specs.Tables.{table_at}
-use Rattle.of_machine.specs.declared.data.Step.{Step}
+use Rattle.of_table.specs.{declared.flow.Flow.Flow, Table.FlowEntry, Tables.table_at}
 use Rattle.of_machine.specs.declared.data.Step.TheVariants.{Miss, Entry, Apply, Clear, Write, Metadata, Goto, Set, Act, TtlExpired, End}
-use Rattle.of_text.specs.Lines.{ended, note}
-use Rattle.of_layers.specs.Fields.{name_of}
-use Rattle.of_text.specs.Rows.{row_encoding}
+use Rattle.of_machine.specs.declared.data.Step.{Step}
+use Rattle.of_text.specs.{Lines.ended, Lines.note, Rows.row_encoding}
 use Rattle.of_lines.specs.declared.row.Row.TheVariants as rows
-use Rattle.of_datapath.specs.declared.effect.Effect.{Effect}
-use Rattle.of_datapath.specs.Datapath.{Forwarding, world_of}
+use Rattle.of_datapath.specs.{declared.effect.Effect.Effect, Datapath.Forwarding, Datapath.world_of}
 use Rattle.of_replay.specs.Output.{text_of}
-use Rattle.of_trace.specs.declared.form.Style.{Style}
-use Rattle.of_trace.specs.declared.form.Style.TheVariants.{Lines, Words}
-use Rattle.of_trace.specs.declared.form.Asked.{Asked}
-use Rattle.of_trace.specs.declared.form.Asked.TheVariants.{Nothing}
-use Rattle.of_trace.specs.declared.form.Form.{Form}
-use Rattle.of_trace.specs.declared.form.Form.TheVariants.{Plain, Explained, Why}
-use Rattle.of_tracing.specs.declared.reason.Reason.{Reason}
-use Rattle.of_trace.specs.declared.sight.Sight.{Sight}
-use Rattle.of_trace.specs.Sights.{key_seen, sight_after, stepped}
-use Rattle.of_tracing.specs.Why.{reason_in}
-use Rattle.of_trace.specs.OnlyNotes.{NotedLine, OnlyNotesAdded}
 use Rattle.of_trace.specs.Notes.{step_changes, entry_notes, explained_trace, explained_from, first_notes, found_notes, group_notes, head_in, is_asked, is_set, is_unsent, step_line_in, look_notes, looks_at, match_notes, miss_notes, notes, plain_trace, reason_note, running_notes, reasons_from, same_value, seen_notes, set_notes, styled, ttl_seen, ttl_words, unsent_note, reason_words, value_or_absent}
-use Rattle.of_trace.specs.declared.unsent.Unsent.{Unsent}
-use Rattle.of_trace.specs.Unsent.{unsent_action, unsent_words}
 use Rattle.of_trace.specs.Words.{entering_sights, flow_there, heading, leaving_text, words_text}
+use Rattle.of_trace.specs.{declared.form.Style.Style, declared.form.Style.TheVariants.Lines, declared.form.Style.TheVariants.Words, declared.form.Asked.Asked}
+use Rattle.of_trace.specs.{declared.form.Asked.TheVariants.Nothing, declared.form.Form.Form}
+use Rattle.of_trace.specs.{declared.form.Form.TheVariants.Plain, declared.form.Form.TheVariants.Explained, declared.form.Form.TheVariants.Why, declared.sight.Sight.Sight}
+use Rattle.of_trace.specs.{Sights.key_seen, Sights.sight_after, Sights.stepped, OnlyNotes.NotedLine, OnlyNotes.OnlyNotesAdded, declared.unsent.Unsent.Unsent}
+use Rattle.of_trace.specs.Unsent.{unsent_action, unsent_words}
+use Rattle.of_tracing.specs.{declared.reason.Reason.Reason, Why.reason_in}
 
 pub record AreNotes (text : List ℕ) : Type 0 where
   pub notes : List (List ℕ)

@@ -1,14 +1,10 @@
 -- What is appended, part by part.
 use Rattle.std.proofs.Common.{◌≡◌, ℕ, ◌<◌, Bool, true, cond, List, [], ◌++◌, Result, Ok, Err, sym, ap, ◌∙◌}
-use Rattle.std.specs.Prelude.{OnOk, Option, nat_lt}
-use Rattle.std.proofs.lemmas.Bool.{lt-ltb}
-use Rattle.std.proofs.lemmas.List.{append_assoc}
+use Rattle.std.{specs.Prelude.OnOk, specs.Prelude.Option, specs.Prelude.nat_lt, proofs.lemmas.Bool.lt-ltb, proofs.lemmas.List.append_assoc}
 use Rattle.of_layers.specs.declared.field.Field.{Field}
 use Rattle.of_table.specs.Tables.{table_at}
 use Rattle.of_datapath.specs.Datapath.{Forwarding}
-use Rattle.of_trace.specs.declared.form.Style.{Style}
-use Rattle.of_trace.specs.declared.form.Asked.{Asked}
-use Rattle.of_trace.specs.Notes.{look_notes, table_notes}
+use Rattle.of_trace.specs.{declared.form.Style.Style, declared.form.Asked.Asked, Notes.look_notes, Notes.table_notes}
 
 -- two parts
 pub both : {T E : Type 0} (r : Result T E) (old mid new xs ys : List ℕ) → mid ≡ old ++ xs → OnOk r (new ≡ mid ++ ys) → OnOk r (new ≡ old ++ (xs ++ ys))

@@ -3,29 +3,18 @@ use Rattle.std.proofs.Common.{◌≡◌, ◌==◌, ℕ, suc, zero, Bool, true, f
 use Rattle.std.specs.Prelude.{replicate, length}
 use Rattle.of_wire.specs.declared.limits.TheConstants.{OFPP_TABLE}
 use Rattle.of_layers.specs.Reading.{layers_of}
-use Rattle.of_rewrite.specs.declared.frame.Ttl.{Ttl}
-use Rattle.of_rewrite.specs.declared.frame.Ttl.TheVariants.{Done, Expired, Absent}
-use Rattle.of_rewrite.specs.TimeToLive.{ttl_of, dec_ttl_result}
-use Rattle.of_rewrite.specs.Frames.{IsFrame, frame_ttl_decremented}
-use Rattle.of_actions.specs.declared.action.Action.{Action}
-use Rattle.of_actions.specs.declared.action.Action.TheVariants.{Output, Group, DecNwTtl}
-use Rattle.of_actions.specs.declared.instruction.Instruction.{Instruction}
+use Rattle.of_rewrite.specs.{declared.frame.Ttl.Ttl, declared.frame.Ttl.TheVariants.Done, declared.frame.Ttl.TheVariants.Expired, declared.frame.Ttl.TheVariants.Absent}
+use Rattle.of_rewrite.specs.{TimeToLive.ttl_of, TimeToLive.dec_ttl_result, Frames.IsFrame, Frames.frame_ttl_decremented}
 use Rattle.of_actions.specs.declared.instruction.Instruction.TheVariants.{Apply, Clear, Write, Metadata, Goto}
+use Rattle.of_actions.specs.{declared.action.Action.Action, declared.action.Action.TheVariants.Output, declared.action.Action.TheVariants.Group, declared.action.Action.TheVariants.DecNwTtl}
+use Rattle.of_actions.specs.declared.instruction.Instruction.{Instruction}
 use Rattle.of_table.specs.declared.flow.Flow.{Flow}
-use Rattle.of_machine.specs.declared.data.Packet.{Packet}
-use Rattle.of_machine.specs.declared.data.Step.{Step}
-use Rattle.of_machine.specs.TheWorld.{TheWorld}
 use Rattle.of_machine.specs.Rows.{Work, Lookup, Do, RunSet, Act, Task, task, Row, row, key_of, entering, lookup_row, entry_row, output_row, group_action_row, dec_ttl_row, copies}
 use Rattle.of_machine.specs.Runs.{Machine, step, first_step, after, starting}
-use Rattle.of_machine.specs.Sound.{IsSound}
-use Rattle.of_machine.specs.Weights.{AllFit}
-use Rattle.of_machine.specs.Growth.{AllLow}
-use Rattle.of_machine.proofs.Growing.{row_low, frame_low}
-use Rattle.of_machine.proofs.Weighing.{bounded}
-use Rattle.of_machine.proofs.Whole.{frame_fits}
-use Rattle.of_machine.proofs.Aged.{aged_same}
-use Rattle.of_trace.specs.declared.sight.Sight.{Sight}
+use Rattle.of_machine.specs.{declared.data.Packet.Packet, declared.data.Step.Step, TheWorld.TheWorld, Sound.IsSound, Weights.AllFit, Growth.AllLow}
+use Rattle.of_machine.proofs.{Growing.row_low, Growing.frame_low, Weighing.bounded, Whole.frame_fits, Aged.aged_same}
 use Rattle.of_trace.specs.Sights.{sight_of, sights_of, output_copies, after_step, stepped, all_stepped}
+use Rattle.of_trace.specs.declared.sight.Sight.{Sight}
 
 -- ---- one row
 

@@ -1,13 +1,10 @@
 -- THE TRACE OF A FLOW TEXT: that of a frame on a new switch with ports 1 to 64, whose links are up, and with the groups and flows of the text.
 use Rattle.std.specs.Prelude.{ℕ, List}
 use Rattle.of_text.specs.Configs.{Configuration}
-use Rattle.of_switch.specs.State.{State}
-use Rattle.of_switch.specs.Steps.{frame_in}
+use Rattle.of_switch.specs.{State.State, Steps.frame_in}
 use Rattle.of_datapath.specs.DryRun.{steps_in}
 use Rattle.of_replay.specs.Loaded.{switch_with}
-use Rattle.of_trace.specs.declared.tracing_file.TheConstants.{TRACED_PORTS}
-use Rattle.of_trace.specs.declared.form.Output.{Output}
-use Rattle.of_trace.specs.Notes.{trace_output}
+use Rattle.of_trace.specs.{declared.tracing_file.TheConstants.TRACED_PORTS, declared.form.Output.Output, Notes.trace_output}
 
 -- what is written of the trace on a switch
 abbrev pub trace_on : Output → ℕ → List ℕ → State → List ℕ

@@ -1,44 +1,30 @@
 -- A TRACE FOR PEOPLE: below a line there are notes, each after four spaces. Without them it is the text of the trace.
 use Rattle.std.specs.Prelude.{ℕ, ◌+◌, ◌==◌, ◌&&◌, Bool, true, false, not, nat_lt, bit_and, List, [], ◌∷◌, ◌++◌, Option, Some, None, codes, decimal, suc, if◌then◌else◌}
 use Rattle.std.specs.List.{flat_map, list_any}
-use Rattle.of_layers.specs.declared.field.Field.{Field}
+use Rattle.of_layers.specs.{declared.field.Field.Field, Fields.name_of, Fields.number_of, Fields.ones_of, Reading.layers_of}
 use Rattle.of_layers.specs.declared.field.TheConstants.Field as constants
-use Rattle.of_layers.specs.Fields.{name_of, number_of, ones_of}
-use Rattle.of_layers.specs.Reading.{layers_of}
 use Rattle.of_rewrite.specs.TimeToLive.{ttl_of}
 use Rattle.of_actions.specs.declared.action.Action.{Action}
 use Rattle.of_actions.specs.declared.action.Action.TheVariants as actions
-use Rattle.of_table.specs.declared.flow.Flow.{Flow}
-use Rattle.of_table.specs.Table.{FlowEntry, flags_number}
-use Rattle.of_table.specs.Tables.{table_at}
-use Rattle.of_machine.specs.declared.data.Step.{Step}
+use Rattle.of_table.specs.{declared.flow.Flow.Flow, Table.FlowEntry, Table.flags_number, Tables.table_at}
 use Rattle.of_machine.specs.declared.data.Step.TheVariants.{Miss, Entry, Metadata, Set, Act, TtlExpired, End}
+use Rattle.of_machine.specs.declared.data.Step.{Step}
 use Rattle.of_oxm.specs.declared.match_field.MatchField.{MatchField}
-use Rattle.of_text.specs.Lines.{ended, note}
+use Rattle.of_text.specs.{Lines.ended, Lines.note, Rows.row_encoding, Rows.value_word}
 use Rattle.of_lines.specs.declared.row.FlowHead.{FlowHead}
-use Rattle.of_text.specs.Rows.{row_encoding, value_word}
 use Rattle.of_lines.specs.declared.row.Row.TheVariants as rows
-use Rattle.of_datapath.specs.declared.effect.Effect.{Effect}
-use Rattle.of_datapath.specs.Datapath.{Forwarding, world_of}
+use Rattle.of_datapath.specs.{declared.effect.Effect.Effect, Datapath.Forwarding, Datapath.world_of}
 use Rattle.of_replay.specs.Output.{text_of}
 use Rattle.of_values.specs.Values.{value_words}
-use Rattle.of_trace.specs.declared.form.Style.{Style}
-use Rattle.of_trace.specs.declared.form.Style.TheVariants.{Lines, Words}
-use Rattle.of_trace.specs.declared.form.Asked.{Asked}
-use Rattle.of_trace.specs.declared.form.Asked.TheVariants.{Nothing, All, Priority}
-use Rattle.of_trace.specs.declared.form.Output.{Output}
+use Rattle.of_trace.specs.Words.{entering_sights, flow_there, heading, leaving_text, step_words, words_text}
+use Rattle.of_trace.specs.{declared.form.Style.Style, declared.form.Style.TheVariants.Lines, declared.form.Style.TheVariants.Words, declared.form.Asked.Asked}
+use Rattle.of_trace.specs.{declared.form.Asked.TheVariants.Nothing, declared.form.Asked.TheVariants.All, declared.form.Asked.TheVariants.Priority, declared.form.Output.Output}
+use Rattle.of_trace.specs.{declared.form.Form.Form, declared.form.Form.TheVariants.Plain, declared.form.Form.TheVariants.Explained, declared.form.Form.TheVariants.Why, declared.sight.Sight.Sight}
+use Rattle.of_trace.specs.{Sights.key_seen, Sights.sight_after, Sights.stepped, declared.unsent.Unsent.Unsent, Unsent.unsent_action, Unsent.unsent_words, Text.step_line, Text.trace_text}
+use Rattle.of_trace.specs.Json.{trace_json}
 use Rattle.of_trace.specs.declared.form.Output.TheVariants as outputs
-use Rattle.of_trace.specs.declared.form.Form.{Form}
-use Rattle.of_trace.specs.declared.form.Form.TheVariants.{Plain, Explained, Why}
 use Rattle.of_tracing.specs.declared.reason.Reason.{Reason}
 use Rattle.of_tracing.specs.declared.reason.Reason.TheVariants.{Won, Differs, LowerPriority, Younger}
-use Rattle.of_trace.specs.declared.sight.Sight.{Sight}
-use Rattle.of_trace.specs.Sights.{key_seen, sight_after, stepped}
-use Rattle.of_trace.specs.declared.unsent.Unsent.{Unsent}
-use Rattle.of_trace.specs.Unsent.{unsent_action, unsent_words}
-use Rattle.of_trace.specs.Text.{step_line, trace_text}
-use Rattle.of_trace.specs.Words.{entering_sights, flow_there, heading, leaving_text, step_words, words_text}
-use Rattle.of_trace.specs.Json.{trace_json}
 use Rattle.of_tracing.specs.Why.{reason_in}
 
 -- ---- values

@@ -1,6 +1,5 @@
 -- NOTES ARE ADDED AND NOTHING ELSE: a text that is another with notes inserted, each after one of its lines.
-use Rattle.std.specs.Prelude.{◌≡◌, ℕ, List, ◌++◌}
-use Rattle.std.specs.List.{flat_map}
+use Rattle.std.specs.{Prelude.◌≡◌, Prelude.ℕ, Prelude.List, Prelude.◌++◌, List.flat_map}
 use Rattle.of_text.specs.Lines.{ended, note}
 
 -- a line, and the notes below it

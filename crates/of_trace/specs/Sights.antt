@@ -1,17 +1,12 @@
 -- WHAT A TRACE TELLS OF ITS PACKETS: the frame and the metadata that each has, step by step (OpenFlow 1.3.5, 5.1).
 use Rattle.std.specs.Prelude.{ℕ, ◌==◌, List, [], ◌∷◌, ◌++◌, length, map, replicate, Option, Some, None, if◌then◌else◌}
 use Rattle.of_wire.specs.declared.limits.TheConstants.{OFPP_TABLE}
-use Rattle.of_layers.specs.declared.field.Field.{Field}
-use Rattle.of_layers.specs.Reading.{layers_of}
+use Rattle.of_layers.specs.{declared.field.Field.Field, Reading.layers_of}
 use Rattle.of_headers.specs.FieldMap.{field_map}
 use Rattle.of_rewrite.specs.Frames.{frame_ttl_decremented}
-use Rattle.of_actions.specs.declared.action.Action.{Action}
-use Rattle.of_actions.specs.declared.action.Action.TheVariants.{Output, Group, DecNwTtl}
-use Rattle.of_machine.specs.declared.data.Packet.{Packet}
-use Rattle.of_machine.specs.declared.data.Step.{Step}
-use Rattle.of_machine.specs.declared.data.Step.TheVariants.{Metadata, Act, End}
-use Rattle.of_machine.specs.TheWorld.{TheWorld}
-use Rattle.of_machine.specs.Rows.{Task, rewritten, with_metadata}
+use Rattle.of_actions.specs.{declared.action.Action.Action, declared.action.Action.TheVariants.Output, declared.action.Action.TheVariants.Group, declared.action.Action.TheVariants.DecNwTtl}
+use Rattle.of_machine.specs.{declared.data.Packet.Packet, declared.data.Step.Step, declared.data.Step.TheVariants.Metadata, declared.data.Step.TheVariants.Act, declared.data.Step.TheVariants.End}
+use Rattle.of_machine.specs.{TheWorld.TheWorld, Rows.Task, Rows.rewritten, Rows.with_metadata}
 use Rattle.of_trace.specs.declared.sight.Sight.{Sight}
 
 -- what tables see of a packet

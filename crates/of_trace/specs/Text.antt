@@ -1,11 +1,10 @@
 -- THE TEXT OF A TRACE: one line a step, in the words of flow text where it has them, and then what the frame gives, in the lines of event output.
 use Rattle.std.specs.Prelude.{ℕ, List, [], ◌∷◌, ◌++◌, codes, decimal}
 use Rattle.std.specs.List.{flat_map}
-use Rattle.of_machine.specs.declared.data.Step.{Step}
 use Rattle.of_machine.specs.declared.data.Step.TheVariants.{Miss, Entry, Apply, Clear, Write, Metadata, Goto, Set, Act, TtlExpired, End}
+use Rattle.of_machine.specs.declared.data.Step.{Step}
 use Rattle.of_actions.specs.declared.action.Action.TheVariants.{DecNwTtl}
-use Rattle.of_text.specs.Lines.{joined, ended}
-use Rattle.of_text.specs.Rows.{row_encoding}
+use Rattle.of_text.specs.{Lines.joined, Lines.ended, Rows.row_encoding}
 use Rattle.of_lines.specs.declared.row.Row.TheVariants as rows
 use Rattle.of_datapath.specs.declared.effect.Effect.{Effect}
 use Rattle.of_replay.specs.Output.{text_of}

@@ -1,10 +1,8 @@
 -- WHY AN OUTPUT OR A GROUP SENDS NOTHING (OpenFlow 1.3.5, 4.5, 5.6.1 and 7.2.1).
 use Rattle.std.specs.Prelude.{ℕ, ◌==◌, ◌||◌, Bool, List, [], ◌∷◌, ◌++◌, Option, Some, None, codes, decimal, if◌then◌else◌}
 use Rattle.of_wire.specs.declared.limits.TheConstants.{OFPP_ALL, OFPP_CONTROLLER, OFPP_FLOOD, OFPP_IN_PORT, OFPP_TABLE}
-use Rattle.of_actions.specs.declared.action.Action.{Action}
-use Rattle.of_actions.specs.declared.action.Action.TheVariants.{Output, Group}
-use Rattle.of_ports.specs.declared.port.Port.{Port}
-use Rattle.of_ports.specs.Ports.{is_live, may_send, port_at}
+use Rattle.of_actions.specs.{declared.action.Action.Action, declared.action.Action.TheVariants.Output, declared.action.Action.TheVariants.Group}
+use Rattle.of_ports.specs.{declared.port.Port.Port, Ports.is_live, Ports.may_send, Ports.port_at}
 use Rattle.of_datapath.specs.Datapath.{Forwarding, world_of}
 use Rattle.of_values.specs.Filled.{filled}
 use Rattle.of_trace.specs.declared.unsent.TheConstants.{CAME_IN, DOWN, FORWARDS_NOTHING, NO_BUCKET, NO_GROUP, NO_PORT}

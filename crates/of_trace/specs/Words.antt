@@ -3,34 +3,22 @@ use Rattle.std.specs.Prelude.{ℕ, ◌==◌, nat_lt, bit_and, List, [], ◌∷�
 use Rattle.std.specs.List.{flat_map}
 use Rattle.of_wire.specs.declared.limits.TheConstants.{OFPP_CONTROLLER}
 use Rattle.hex.specs.Hex.{encode_lower}
-use Rattle.of_layers.specs.declared.field.Field.{Field}
+use Rattle.of_layers.specs.{declared.field.Field.Field, Fields.name_of, Reading.layers_of}
 use Rattle.of_layers.specs.declared.field.Field.TheVariants as fields
-use Rattle.of_layers.specs.Fields.{name_of}
-use Rattle.of_layers.specs.Reading.{layers_of}
-use Rattle.of_headers.specs.declared.headers.FrameFault.{FrameFault}
-use Rattle.of_headers.specs.declared.headers.FrameFault.TheVariants.{Short, Long}
-use Rattle.of_headers.specs.Faults.{frame_fault}
+use Rattle.of_headers.specs.{declared.headers.FrameFault.FrameFault, declared.headers.FrameFault.TheVariants.Short, declared.headers.FrameFault.TheVariants.Long, Faults.frame_fault}
 use Rattle.of_rewrite.specs.TimeToLive.{ttl_of}
-use Rattle.of_actions.specs.declared.action.Action.{Action}
-use Rattle.of_actions.specs.declared.action.Action.TheVariants.{Output, Group, SetField}
-use Rattle.of_ports.specs.declared.port.Port.{Port}
-use Rattle.of_ports.specs.Ports.{is_live, may_receive, port_at}
+use Rattle.of_actions.specs.{declared.action.Action.Action, declared.action.Action.TheVariants.Output, declared.action.Action.TheVariants.Group, declared.action.Action.TheVariants.SetField}
+use Rattle.of_ports.specs.{declared.port.Port.Port, Ports.is_live, Ports.may_receive, Ports.port_at}
 use Rattle.of_table.specs.declared.flow.Flow.{Flow}
-use Rattle.of_machine.specs.declared.data.Step.{Step}
 use Rattle.of_machine.specs.declared.data.Step.TheVariants.{Miss, Entry, Apply, Clear, Write, Metadata, Goto, Set, Act, TtlExpired, End}
-use Rattle.of_text.specs.Lines.{ended}
-use Rattle.of_text.specs.Rows.{row_encoding}
+use Rattle.of_machine.specs.declared.data.Step.{Step}
+use Rattle.of_text.specs.{Lines.ended, Rows.row_encoding}
 use Rattle.of_lines.specs.declared.row.Row.TheVariants as rows
-use Rattle.of_datapath.specs.declared.effect.Effect.{Effect}
-use Rattle.of_datapath.specs.declared.effect.Effect.TheVariants.{Answer, Sent, Closed}
+use Rattle.of_datapath.specs.{declared.effect.Effect.Effect, declared.effect.Effect.TheVariants.Answer, declared.effect.Effect.TheVariants.Sent, declared.effect.Effect.TheVariants.Closed}
 use Rattle.of_datapath.specs.Datapath.{Forwarding, flow_in}
 use Rattle.of_values.specs.Numbers as numbers
-use Rattle.of_values.specs.Values.{value_words}
-use Rattle.of_values.specs.Entries.{entry_words}
-use Rattle.of_trace.specs.declared.sight.Sight.{Sight}
-use Rattle.of_trace.specs.Sights.{key_seen}
-use Rattle.of_trace.specs.declared.unsent.Unsent.{Unsent}
-use Rattle.of_trace.specs.Unsent.{behind_line, unsent_action}
+use Rattle.of_values.specs.{Values.value_words, Entries.entry_words}
+use Rattle.of_trace.specs.{declared.sight.Sight.Sight, Sights.key_seen, declared.unsent.Unsent.Unsent, Unsent.behind_line, Unsent.unsent_action}
 
 -- words and a number
 unfoldable pub numbered_words : List ℕ → ℕ → List ℕ

@@ -1,9 +1,7 @@
 //! Fields of packets in notes.
-ghost use Rattle.std.specs.Prelude.{◌≡◌, ◌++◌, ◌<◌, OnOk};
-ghost use Rattle.std.specs.List.{flat_map};
+ghost use Rattle.std.specs.{Prelude.◌≡◌, Prelude.◌++◌, Prelude.◌<◌, Prelude.OnOk, List.flat_map};
 ghost use Rattle.of_headers.specs.FieldMap.{value};
-ghost use Rattle.of_table.specs.Entries.{flows_of};
-ghost use Rattle.of_table.specs.Tables.{table_at};
+ghost use Rattle.of_table.specs.{Entries.flows_of, Tables.table_at};
 ghost use Rattle.of_trace.specs.Notes.{change_note, change_notes, spaced_digits, has_field, looks_at as is_looked_at, mask_digits, same_value, seen_note, seen_notes, ttl_note, ttl_words, value_or_absent, value_text, wanted_text};
 
 use crate::form::Style;

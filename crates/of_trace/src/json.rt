@@ -1,7 +1,6 @@
 //! Traces as JSON.
 ghost use Rattle.std.specs.Prelude.{◌≡◌, ◌++◌, ◌∷◌, IfOk, OnOk, None, Some, codes};
-ghost use Rattle.of_json.specs.Parts.{listed, number_member, text_member};
-ghost use Rattle.of_json.specs.Strings.{array_member};
+ghost use Rattle.of_json.specs.{Parts.listed, Parts.number_member, Parts.text_member, Strings.array_member};
 ghost use Rattle.of_values.specs.Values.{value_words};
 ghost use Rattle.of_trace.specs.Json.{action_members, effect_members, effect_named, effect_object, flow_members, head_members, hexadecimal_member, port_member, step_member, step_members, step_object, trace_json};
 ghost use Rattle.of_trace.specs.Words.{flow_there};

@@ -1,22 +1,10 @@
 //! Laws of traces.
 ghost use Rattle.std.specs.Prelude.{◌≡◌, ◌≤◌, ◌<◌, ◌∷◌, ℕ, List, [], Option, Some, length};
 ghost use Rattle.of_rewrite.specs.Frames.{IsFrame};
-ghost use Rattle.of_machine.specs.declared.data.Step.{Step};
-ghost use Rattle.of_machine.specs.TheWorld.{TheWorld};
-ghost use Rattle.of_machine.specs.Sound.{IsSound};
-ghost use Rattle.of_machine.specs.Rows.{Lookup, entering};
-ghost use Rattle.of_machine.specs.Runs.{after, starting};
-ghost use Rattle.of_datapath.specs.declared.effect.Effect.{Effect};
-ghost use Rattle.of_datapath.specs.Datapath.{Forwarding};
-ghost use Rattle.of_replay.specs.Told.{Known, Left};
-ghost use Rattle.of_replay.specs.FileRuns.{Runs, TextOf, flow_text, is_text};
-ghost use Rattle.of_replay.specs.declared.event_file.Ended.TheVariants.{Done};
-ghost use Rattle.of_trace.specs.Files.{trace_of};
-ghost use Rattle.of_trace.specs.declared.form.Output.{Output};
-ghost use Rattle.of_trace.specs.declared.form.Style.{Style};
-ghost use Rattle.of_trace.specs.declared.form.Form.{Form};
-ghost use Rattle.of_trace.specs.Notes.{plain_trace, styled};
-ghost use Rattle.of_trace.specs.OnlyNotes.{OnlyNotesAdded};
+ghost use Rattle.of_machine.specs.{declared.data.Step.Step, TheWorld.TheWorld, Sound.IsSound, Rows.Lookup, Rows.entering, Runs.after, Runs.starting};
+ghost use Rattle.of_datapath.specs.{declared.effect.Effect.Effect, Datapath.Forwarding};
+ghost use Rattle.of_replay.specs.{Told.Known, Told.Left, FileRuns.Runs, FileRuns.TextOf, FileRuns.flow_text, FileRuns.is_text, declared.event_file.Ended.TheVariants.Done};
+ghost use Rattle.of_trace.specs.{Files.trace_of, declared.form.Output.Output, declared.form.Style.Style, declared.form.Form.Form, Notes.plain_trace, Notes.styled, OnlyNotes.OnlyNotesAdded};
 ghost use Rattle.of_trace.specs.Sights.{all_stepped, sight_of, sights_of};
 
 /// The steps of a frame tell its packets: after any number of steps of the machine, the packets that are left are, as tables see

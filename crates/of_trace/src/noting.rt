@@ -2,15 +2,13 @@
 ghost use Rattle.std.specs.Prelude.{◌≡◌, ◌<◌, ◌++◌, ◌∷◌, IfOk, OnOk, Some, IsTrue, codes, decimal};
 ghost use Rattle.std.specs.List.{AllByRecursion};
 ghost use Rattle.of_oxm.specs.NormalForm.{IsKept};
-ghost use Rattle.of_text.specs.Rows.{Fits, row_encoding};
+ghost use Rattle.of_text.specs.{Rows.Fits, Rows.row_encoding, Lines.note};
 ghost use Rattle.of_headers.specs.FieldMap.{value};
 ghost use Rattle.of_datapath.specs.Datapath.{world_of};
 ghost use Rattle.of_table.specs.Tables.{table_at};
 ghost use Rattle.of_tracing.specs.Encoded.{are_encoded, is_encoded};
-ghost use Rattle.of_trace.specs.Sights.{key_seen, sight_after, stepped};
-ghost use Rattle.of_text.specs.Lines.{note};
 ghost use Rattle.of_trace.specs.Notes.{step_changes, text_of_effects, entry_notes, explained_trace, explained_from, first_notes, found_notes, head_in, heading_in, is_unsent as is_unsent_by, step_line_in, look_notes, match_notes, miss_notes, notes as notes_of, bucket_notes, sending_notes, sends_packet as is_sending, set_notes, table_notes, unsent_note};
-ghost use Rattle.of_trace.specs.Words.{flow_there};
+ghost use Rattle.of_trace.specs.{Sights.key_seen, Sights.sight_after, Sights.stepped, Words.flow_there};
 
 use crate::fields::{push_changes, push_seen, push_ttl_change};
 use crate::form::{Asked, Style};

@@ -1,7 +1,6 @@
 //! The packets of a trace, in the order in which they take steps.
 ghost use Rattle.std.specs.Prelude.{◌≡◌, ◌++◌, ◌∷◌, IfOk, OnOk, option_to_list, replicate};
-ghost use Rattle.of_trace.specs.Words.{entering_sights};
-ghost use Rattle.of_trace.specs.Sights.{action_copies, after_step, output_copies, sight_after};
+ghost use Rattle.of_trace.specs.{Words.entering_sights, Sights.action_copies, Sights.after_step, Sights.output_copies, Sights.sight_after};
 ghost use Rattle.of_datapath.specs.Datapath.{world_of};
 
 use crate::sight::Sight;

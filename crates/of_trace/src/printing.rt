@@ -2,9 +2,7 @@
 ghost use Rattle.std.specs.Prelude.{◌≡◌, ◌++◌, ◌∷◌, [], IfOk, OnOk, IsTrue, codes, decimal};
 ghost use Rattle.of_text.specs.Lines.{joined};
 ghost use Rattle.of_tracing.specs.Encoded.{is_encoded, are_encoded};
-ghost use Rattle.of_trace.specs.Notes.{plain_trace};
-ghost use Rattle.of_trace.specs.Text.{step_line, steps_text, trace_text};
-ghost use Rattle.of_trace.specs.declared.form.Style.TheVariants.{Words};
+ghost use Rattle.of_trace.specs.{Notes.plain_trace, Text.step_line, Text.steps_text, Text.trace_text, declared.form.Style.TheVariants.Words};
 
 use crate::words::{push_heading, push_leaving, push_words};
 use of_actions::Action;

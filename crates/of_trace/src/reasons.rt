@@ -1,8 +1,7 @@
 //! Notes on why entries won or did not.
 ghost use Rattle.std.specs.Prelude.{◌≡◌, ◌++◌, ◌∷◌, ◌<◌, OnOk, codes, decimal};
 ghost use Rattle.of_headers.specs.FieldMap.{value};
-ghost use Rattle.of_table.specs.Entries.{entry_of};
-ghost use Rattle.of_table.specs.Tables.{table_at};
+ghost use Rattle.of_table.specs.{Entries.entry_of, Tables.table_at};
 ghost use Rattle.of_trace.specs.Notes.{is_asked, reason_note, reason_words, reasons_from};
 
 use crate::fields::{push_found, push_wanted};

@@ -2,8 +2,7 @@
 ghost use Rattle.std.specs.Prelude.{◌≡◌, IfOk, OnOk, IsTrue, false};
 ghost use Rattle.of_actions.specs.Supported.{is_supported};
 ghost use Rattle.of_headers.specs.FieldMap.{value};
-ghost use Rattle.of_trace.specs.Notes.{ttl_seen};
-ghost use Rattle.of_trace.specs.Sights.{frame_after_action, key_seen, sight_after};
+ghost use Rattle.of_trace.specs.{Notes.ttl_seen, Sights.frame_after_action, Sights.key_seen, Sights.sight_after};
 ghost use Rattle.of_tracing.specs.Encoded.{is_encoded};
 
 use of_actions::Action;

@@ -1,7 +1,6 @@
 //! Frames, traced on the flows of a flow text.
 ghost use Rattle.std.specs.Prelude.{◌≡◌, ◌≤◌};
-ghost use Rattle.of_replay.specs.FileRuns.{Runs, flow_text, is_text};
-ghost use Rattle.of_replay.specs.WholeFiles.{Faults};
+ghost use Rattle.of_replay.specs.{FileRuns.Runs, FileRuns.flow_text, FileRuns.is_text, WholeFiles.Faults};
 ghost use Rattle.of_trace.specs.Files.{trace_of};
 
 use crate::form::Output;

@@ -1,6 +1,5 @@
 //! Why outputs and groups send nothing.
-ghost use Rattle.std.specs.Prelude.{◌≡◌, ◌++◌, OnOk};
-ghost use Rattle.std.specs.Option.{option_copied};
+ghost use Rattle.std.specs.{Prelude.◌≡◌, Prelude.◌++◌, Prelude.OnOk, Option.option_copied};
 ghost use Rattle.of_datapath.specs.Datapath.{world_of};
 ghost use Rattle.of_trace.specs.Unsent.{behind_line, group_unsent as is_group_unsent, output_unsent as is_output_unsent, port_unsent as is_port_unsent, unsent_action, unsent_words};
 

@@ -1,8 +1,7 @@
 //! Traces to a sink.
 ghost use Rattle.std.specs.Prelude.{◌≡◌, ◌↔◌, ◌<◌, IfErr, IfOk};
 ghost use Rattle.of_replay.specs.FileRuns.{Writes, is_text};
-ghost use Rattle.of_trace.specs.Files.{trace_on};
-ghost use Rattle.of_trace.specs.Notes.{plain_trace, styled as styled_text};
+ghost use Rattle.of_trace.specs.{Files.trace_on, Notes.plain_trace, Notes.styled as styled_text};
 
 use crate::form::{Asked, Form, Output, Style};
 use crate::json::print_json;

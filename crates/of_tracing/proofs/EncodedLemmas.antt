@@ -1,38 +1,22 @@
 -- What a frame's run does are actions of flows and of buckets.
 use Rattle.std.proofs.Common.{◌≡◌, ◌==◌, ℕ, suc, zero, Bool, true, false, ◌&&◌, cond, List, [], ◌∷◌, ◌++◌, Option, Some, None, refl}
-use Rattle.std.specs.Prelude.{IsTrue, ⊤}
-use Rattle.std.specs.List.{list_all}
+use Rattle.std.specs.{Prelude.IsTrue, Prelude.⊤, List.list_all}
 use Rattle.of_wire.specs.declared.limits.TheConstants.{OFPP_TABLE}
-use Rattle.of_layers.proofs.TestLemmas.{and_true}
-use Rattle.of_layers.specs.Reading.{layers_of}
-use Rattle.of_headers.specs.declared.headers.FrameFault.{FrameFault}
-use Rattle.of_headers.specs.Faults.{frame_fault}
-use Rattle.of_rewrite.specs.declared.frame.Ttl.{Ttl}
-use Rattle.of_rewrite.specs.declared.frame.Ttl.TheVariants.{Done, Expired, Absent}
+use Rattle.of_layers.{specs.Reading.layers_of, proofs.TestLemmas.and_true}
+use Rattle.of_headers.specs.{declared.headers.FrameFault.FrameFault, Faults.frame_fault}
+use Rattle.of_rewrite.specs.{declared.frame.Ttl.Ttl, declared.frame.Ttl.TheVariants.Done, declared.frame.Ttl.TheVariants.Expired, declared.frame.Ttl.TheVariants.Absent}
 use Rattle.of_rewrite.specs.TimeToLive.{ttl_of, dec_ttl_result}
-use Rattle.of_actions.specs.declared.action.Action.{Action}
-use Rattle.of_actions.specs.declared.action.Action.TheVariants.{Output, Group, DecNwTtl}
-use Rattle.of_actions.specs.declared.instruction.Instruction.{Instruction}
 use Rattle.of_actions.specs.declared.instruction.Instruction.TheVariants.{Apply, Clear, Write, Metadata, Goto}
-use Rattle.of_actions.specs.Supported.{is_supported}
-use Rattle.of_actions.specs.InstructionLists.{is_served_body}
+use Rattle.of_actions.specs.{declared.action.Action.Action, declared.action.Action.TheVariants.Output, declared.action.Action.TheVariants.Group, declared.action.Action.TheVariants.DecNwTtl}
+use Rattle.of_actions.specs.{declared.instruction.Instruction.Instruction, Supported.is_supported, InstructionLists.is_served_body}
 use Rattle.of_action_set.specs.Sets.{in_order}
 use Rattle.of_table.specs.declared.flow.Flow.{Flow}
-use Rattle.of_ports.specs.declared.port.Port.{Port}
-use Rattle.of_machine.specs.declared.data.Packet.{Packet}
-use Rattle.of_machine.specs.declared.data.Step.{Step}
-use Rattle.of_ports.specs.Ports.{may_receive, port_at}
-use Rattle.of_machine.specs.TheWorld.{TheWorld}
-use Rattle.of_machine.specs.Sound.{IsSound}
+use Rattle.of_ports.specs.{declared.port.Port.Port, Ports.may_receive, Ports.port_at}
 use Rattle.of_machine.specs.Rows.{Work, Lookup, Do, RunSet, Act, Task, task, Row, row, acts, works, key_of, lookup_row, entry_row, output_row, group_action_row, dec_ttl_row, copies, entering}
-use Rattle.of_machine.specs.Weights.{IsSet, AllFit}
 use Rattle.of_machine.specs.Runs.{Machine, step, first_step, after, starting, run_of}
-use Rattle.of_machine.proofs.Promises.{flow_served, list_served}
-use Rattle.of_machine.proofs.Sets.{run_set}
-use Rattle.of_machine.proofs.Weighing.{bounded}
-use Rattle.of_machine.proofs.Whole.{frame_fits, run_unfolds}
-use Rattle.of_datapath.specs.Datapath.{Forwarding, world_of}
-use Rattle.of_datapath.specs.DryRun.{steps_in, arriving_steps, taken_in_steps}
+use Rattle.of_machine.specs.{declared.data.Packet.Packet, declared.data.Step.Step, TheWorld.TheWorld, Sound.IsSound, Weights.IsSet, Weights.AllFit}
+use Rattle.of_machine.proofs.{Promises.flow_served, Promises.list_served, Sets.run_set, Weighing.bounded, Whole.frame_fits, Whole.run_unfolds}
+use Rattle.of_datapath.specs.{Datapath.Forwarding, Datapath.world_of, DryRun.steps_in, DryRun.arriving_steps, DryRun.taken_in_steps}
 use Rattle.of_tracing.specs.Encoded.{is_encoded, are_encoded}
 
 -- ---- work whose actions are those of flows

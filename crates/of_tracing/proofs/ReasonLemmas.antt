@@ -1,13 +1,10 @@
 -- The reason that is given is the one that is defined.
 use Rattle.std.proofs.Common.{◌≡◌, ◌≢◌, ℕ, ◌<◌, ◌≤◌, List, Option, Some, None, refl, ◌∙◌}
-use Rattle.std.specs.Prelude.{slice_get}
-use Rattle.std.proofs.lemmas.Bool.{eq-eqb, ne_eqb, lt-ltb, le-ltb}
+use Rattle.std.{specs.Prelude.slice_get, proofs.lemmas.Bool.eq-eqb, proofs.lemmas.Bool.ne_eqb, proofs.lemmas.Bool.lt-ltb, proofs.lemmas.Bool.le-ltb}
 use Rattle.of_layers.specs.declared.field.Field.{Field}
-use Rattle.of_oxm.specs.declared.match_field.MatchField.{MatchField}
+use Rattle.of_oxm.specs.{declared.match_field.MatchField.MatchField, Relations.first_difference}
 use Rattle.of_table.specs.Table.{FlowEntry, winner_place}
-use Rattle.of_oxm.specs.Relations.{first_difference}
-use Rattle.of_tracing.specs.Why.{reason_in, reason_of_entry}
-use Rattle.of_tracing.specs.declared.reason.Reason.{Reason}
+use Rattle.of_tracing.specs.{Why.reason_in, Why.reason_of_entry, declared.reason.Reason.Reason}
 use Rattle.of_tracing.specs.declared.reason.Reason.TheVariants.{Won, Differs, LowerPriority, Younger}
 
 module _ (flows : List FlowEntry) (map : Field → Option ℕ) (place : ℕ) where

@@ -2,14 +2,9 @@
 use Rattle.std.proofs.Common.{◌≡◌, ◌≢◌, ℕ, ◌+◌, ◌<◌, ◌≤◌, suc, zero, Bool, true, false, ◌&&◌, cond, List, [], ◌∷◌, Option, Some, None, refl, sym, ap, ◌∙◌, arith}
 use Rattle.std.specs.Prelude.{slice_get, not, find}
 use Rattle.of_layers.specs.declared.field.Field.{Field}
-use Rattle.of_oxm.specs.declared.match_field.MatchField.{MatchField}
-use Rattle.of_oxm.specs.Relations.{agrees, matches_map}
-use Rattle.of_classifier.specs.declared.Row.{Row}
-use Rattle.of_classifier.specs.Rows.{made_row}
-use Rattle.of_classifier.specs.Winner.{winner_of, winner_number, Wins}
-use Rattle.of_classifier.proofs.WinnerLaw.{wins_both, none_both}
-use Rattle.of_table.specs.Table.{FlowEntry, rows_from, winner_place}
-use Rattle.of_table.specs.Tables.{table_at}
+use Rattle.of_oxm.specs.{declared.match_field.MatchField.MatchField, Relations.agrees, Relations.matches_map}
+use Rattle.of_classifier.{specs.declared.Row.Row, specs.Rows.made_row, specs.Winner.winner_of, specs.Winner.winner_number, specs.Winner.Wins, proofs.WinnerLaw.wins_both, proofs.WinnerLaw.none_both}
+use Rattle.of_table.specs.{Table.FlowEntry, Table.rows_from, Table.winner_place, Tables.table_at}
 use Rattle.of_datapath.specs.Datapath.{Forwarding, winner_in}
 use Rattle.of_tracing.specs.Why.{HasDifference, IsBeaten, HasLowerPriority, IsYounger}
 

@@ -3,9 +3,7 @@ ghost use Rattle.std.specs.Prelude.{◌≡◌, ◌<◌, ℕ, Option, Some, true,
 ghost use Rattle.of_layers.specs.declared.field.Field.{Field};
 ghost use Rattle.of_headers.specs.FieldMap.{value};
 ghost use Rattle.of_oxm.specs.Relations.{matches_map};
-ghost use Rattle.of_table.specs.Entries.{entry_of};
-ghost use Rattle.of_table.specs.Table.{winner_place};
-ghost use Rattle.of_table.specs.Tables.{table_at};
+ghost use Rattle.of_table.specs.{Entries.entry_of, Table.winner_place, Tables.table_at};
 ghost use Rattle.of_tracing.specs.Why.{Explains, reason_in, reason_of_entry};
 
 use crate::reason::Reason;

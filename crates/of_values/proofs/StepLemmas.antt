@@ -1,9 +1,7 @@
 -- One step more of a loop that counts down.
 use Rattle.std.proofs.Common.{◌≡◌, ℕ, suc, ◌+◌, List, [], ◌∷◌, ◌++◌, refl, ◌∙◌, append_assoc}
 use Rattle.std.proofs.lemmas.Bool.{ne_eqb}
-use Rattle.of_values.specs.Numbers.{digit_at, digits}
-use Rattle.of_values.specs.Ipv6.{group_digits, further_groups}
-use Rattle.of_values.specs.Masks.{first_bits, prefix_below}
+use Rattle.of_values.specs.{Numbers.digit_at, Numbers.digits, Ipv6.group_digits, Ipv6.further_groups, Masks.first_bits, Masks.prefix_below}
 
 pub prefix_next : (ones mask n m r : ℕ) → n ≡ suc m → r ≡ first_bits ones m → (r ≡ mask → ⊥) → prefix_below ones mask n ≡ prefix_below ones mask m
 unfolding prefix_below

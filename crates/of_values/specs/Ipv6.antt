@@ -1,8 +1,7 @@
 -- IPV6 ADDRESSES IN WORDS (RFC 5952, 4): eight groups of 16 bits in hexadecimal without leading zeros, and `::` in place of the longest run of
 -- groups of zeros, two at least, the first of several. A group is named by how many groups are behind it.
 use Rattle.std.specs.Prelude.{ℕ, zero, suc, ◌+◌, ◌-◌, ◌*◌, ◌/◌, ◌%◌, ◌^◌, ◌==◌, ◌&&◌, Bool, true, List, [], ◌∷◌, ◌++◌, codes, Option, Some, None, if◌then◌else◌}
-use Rattle.of_values.specs.declared.ipv6.Run.{Run}
-use Rattle.of_values.specs.Numbers.{digits}
+use Rattle.of_values.specs.{declared.ipv6.Run.Run, Numbers.digits}
 
 abbrev pub group : ℕ → ℕ → ℕ
 group behind n = n / 2 ^ (16 * behind) % 65536

@@ -1,7 +1,6 @@
 -- MASKS OF ADDRESSES IN WORDS: the length of a prefix, or an address.
 use Rattle.std.specs.Prelude.{ℕ, zero, suc, ◌-◌, ◌/◌, ◌^◌, ◌==◌, List, decimal, Option, Some, None, if◌then◌else◌}
-use Rattle.of_values.specs.Numbers.{ipv4_address}
-use Rattle.of_values.specs.Ipv6.{ipv6_address}
+use Rattle.of_values.specs.{Numbers.ipv4_address, Ipv6.ipv6_address}
 
 -- the mask of the first n bits of as many as `ones` has
 abbrev pub first_bits : ℕ → ℕ → ℕ

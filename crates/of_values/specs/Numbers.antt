@@ -1,8 +1,7 @@
 -- NUMBERS IN WORDS: hexadecimal digits, Ethernet and IPv4 addresses, ports.
 use Rattle.std.specs.Prelude.{ℕ, zero, suc, ◌+◌, ◌*◌, ◌/◌, ◌%◌, ◌^◌, ◌==◌, ◌||◌, not, nat_lt, List, [], ◌∷◌, ◌++◌, codes, decimal, Option, Some, None, find, if◌then◌else◌}
 use Rattle.of_wire.specs.Parts.{keyword}
-use Rattle.of_values.specs.declared.ports.PortName.{PortName}
-use Rattle.of_values.specs.declared.ports.TheConstants.{PORT_NAMES}
+use Rattle.of_values.specs.{declared.ports.PortName.PortName, declared.ports.TheConstants.PORT_NAMES}
 
 -- ---- hexadecimal digits
 

@@ -1,12 +1,10 @@
 -- VALUES OF MATCH FIELDS IN WORDS, as an operator writes them (OpenFlow 1.3.5, 7.2.3.7): each field has a form.
 use Rattle.std.specs.Prelude.{ℕ, ◌-◌, ◌==◌, ◌&&◌, nat_le, List, ◌∷◌, ◌++◌, codes, decimal, Option, Some, None, if◌then◌else◌}
-use Rattle.of_layers.specs.declared.field.Field.{Field}
 use Rattle.of_layers.specs.declared.field.Field.TheVariants.{InPort, Metadata, EthDst, EthSrc, EthType, VlanVid, VlanPcp, IpDscp, IpEcn, IpProto, Ipv4Src, Ipv4Dst, TcpSrc, TcpDst, UdpSrc, UdpDst, Icmpv4Type, Icmpv4Code, ArpOp, ArpSpa, ArpTpa, ArpSha, ArpTha, Ipv6Src, Ipv6Dst, Ipv6Flabel, Icmpv6Type, Icmpv6Code}
-use Rattle.of_values.specs.declared.form.Form.{Form}
+use Rattle.of_layers.specs.declared.field.Field.{Field}
 use Rattle.of_values.specs.declared.form.Form.TheVariants.{Number, Hexadecimal, Port, Vlan, Ethernet, Ipv4, Ipv6}
+use Rattle.of_values.specs.{declared.form.Form.Form, Ipv6.ipv6_address, Masks.ipv4_mask, Masks.ipv6_mask}
 use Rattle.of_values.specs.Numbers as words
-use Rattle.of_values.specs.Ipv6.{ipv6_address}
-use Rattle.of_values.specs.Masks.{ipv4_mask, ipv6_mask}
 
 -- THE FORM OF EACH FIELD
 unfoldable pub form_of : Field → Form

@@ -1,6 +1,5 @@
 //! Flow entries in words.
-ghost use Rattle.std.specs.Prelude.{◌≡◌, ◌++◌, OnOk};
-ghost use Rattle.std.specs.List.{flat_map};
+ghost use Rattle.std.specs.{Prelude.◌≡◌, Prelude.◌++◌, Prelude.OnOk, List.flat_map};
 ghost use Rattle.of_values.specs.Entries.{entry_words, field_words, further_field, match_words};
 
 use crate::digits::push_decimal;

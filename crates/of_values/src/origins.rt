@@ -1,6 +1,5 @@
 //! Where flow entries come from.
-ghost use Rattle.std.specs.Prelude.{◌≡◌, ◌++◌, OnOk};
-ghost use Rattle.std.specs.List.{flat_map};
+ghost use Rattle.std.specs.{Prelude.◌≡◌, Prelude.◌++◌, Prelude.OnOk, List.flat_map};
 ghost use Rattle.of_values.specs.Origins.{further_counter, view_words};
 
 use crate::characters::push_printable;

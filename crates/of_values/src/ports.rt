@@ -1,7 +1,6 @@
 //! Ports in words.
 ghost use Rattle.std.specs.Prelude.{◌≡◌, ◌++◌, ◌==◌, OnOk, find};
-ghost use Rattle.of_values.specs.declared.ports.TheConstants.{PORT_NAMES};
-ghost use Rattle.of_values.specs.Numbers.{port_in_words};
+ghost use Rattle.of_values.specs.{declared.ports.TheConstants.PORT_NAMES, Numbers.port_in_words};
 
 use crate::digits::push_decimal;
 use of_wire::keyword;

@@ -1,8 +1,7 @@
 -- Refusals of which none applies.
 use Rattle.std.proofs.Common.{◌≡◌, Bool, true, false, cond, List, [], ◌∷◌, Option, Some, None, refl}
 use Rattle.std.specs.Prelude.{◌||◌}
-use Rattle.of_wire.specs.declared.code.Code.{Code}
-use Rattle.of_wire.specs.Refusals.{first_of}
+use Rattle.of_wire.specs.{declared.code.Code.Code, Refusals.first_of}
 
 abbrev pub NoneApplies : List (Bool × Code) → Type 0
 NoneApplies [] = Unit {0}

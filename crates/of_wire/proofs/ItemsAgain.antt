@@ -1,9 +1,7 @@
 -- What is written is read again, whatever follows.
 use Rattle.std.proofs.Common.{◌≡◌, ℕ, ◌<◌, List, [], ◌∷◌, ◌++◌, length, drop, Some, None, refl, sym, ap, subst, ◌∙◌}
-use Rattle.std.specs.List.{flat_map}
-use Rattle.std.proofs.lemmas.List.{drop_at}
-use Rattle.of_wire.specs.Refusals.{first_of}
-use Rattle.of_wire.specs.Items.{Items, AreItems}
+use Rattle.std.{specs.List.flat_map, proofs.lemmas.List.drop_at}
+use Rattle.of_wire.specs.{Refusals.first_of, Items.Items, Items.AreItems}
 
 pub record Again {V : Type 0} (kind : Items V) (text : List ℕ) (v : V) (seen : List V) (x : List ℕ) : Type 0 where
   pub some : 0 < length (text ++ x)

@@ -1,10 +1,8 @@
 -- Items that bytes are, are what reading them as a function gives.
 use Rattle.std.proofs.Common.{◌≡◌, ℕ, zero, suc, ◌≤◌, List, [], ◌∷◌, ◌++◌, length, drop, Option, Some, None, Ok, refl, sym, ap, ◌∙◌, arith}
-use Rattle.std.specs.Prelude.{IsSome}
-use Rattle.std.proofs.lemmas.List.{append_assoc, append-nil, length-drop}
-use Rattle.of_wire.specs.declared.code.Code.{Code}
-use Rattle.of_wire.specs.Refusals.{first_of}
+use Rattle.std.{specs.Prelude.IsSome, proofs.lemmas.List.append_assoc, proofs.lemmas.List.append-nil, proofs.lemmas.List.length-drop}
 use Rattle.of_wire.specs.Items.{Items, AreItems, item_then, items_from, outcome, TakesBytes}
+use Rattle.of_wire.specs.{declared.code.Code.Code, Refusals.first_of}
 
 no_more : {V : Type 0} (kind : Items V) (n : ℕ) (seen : List V) → items_from kind n seen [] ≡ Ok seen
 unfolding items_from

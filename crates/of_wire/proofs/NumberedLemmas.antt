@@ -1,8 +1,6 @@
 -- Lists whose elements have numbers, after elements are added, removed and moved.
 use Rattle.std.proofs.Common.{◌≡◌, ℕ, ◌<◌, suc, zero, Bool, true, false, cond, eqb, List, [], ◌∷◌, ◌++◌, length, get_or, refl, sym, ap, arith}
-use Rattle.std.specs.Prelude.{remove, map, filter}
-use Rattle.std.proofs.lemmas.Bool.Decides.{nat_tests, eqb_tells}
-use Rattle.std.proofs.lemmas.List.Folds.{list_any-append}
+use Rattle.std.{specs.Prelude.remove, specs.Prelude.map, specs.Prelude.filter, proofs.lemmas.Bool.Decides.nat_tests, proofs.lemmas.Bool.Decides.eqb_tells, proofs.lemmas.List.Folds.list_any-append}
 use Rattle.std.proofs.lemmas.List.{append-nil}
 use Rattle.of_wire.specs.Numbered.{is_used, is_distinct, without, only, moved_to_end}
 

@@ -1,12 +1,9 @@
 -- Bytes and the number that they make stand for one another.
 use Rattle.std.proofs.Common.{◌≡◌, ℕ, zero, suc, ◌+◌, ◌*◌, ◌/◌, ◌%◌, ◌^◌, ◌<◌, ◌≤◌, List, [], ◌∷◌, ◌++◌, length, get_or, take, drop, refl, sym, ap, ◌∙◌, arith, inl, inr}
-use Rattle.std.proofs.Math.Nat.{mod-lt}
-use Rattle.std.proofs.lemmas.Bool.{cases_lt}
-use Rattle.std.proofs.lemmas.Nat.{div-mul-add, mod-mul-add}
 use Rattle.std.proofs.lemmas.List.{length-take, get_or-take, get_or-drop, get_or_past, append-nil, take_at}
-use Rattle.std.specs.Int.{byte_at}
-use Rattle.byteorder.specs.Endian.{big_from, big_number, big_bytes}
+use Rattle.std.{specs.Int.byte_at, proofs.Math.Nat.mod-lt, proofs.lemmas.Bool.cases_lt, proofs.lemmas.Nat.div-mul-add, proofs.lemmas.Nat.mod-mul-add}
 use Rattle.byteorder.specs.Numbers.{big_from-cons, big_from-lt, big_from-take, big_number-reads_back, length-bytes_high_first}
+use Rattle.byteorder.specs.Endian.{big_from, big_number, big_bytes}
 
 abbrev pub IsBytes : List ℕ → Type 0
 IsBytes bytes = (i : ℕ) → get_or bytes i 0 < 256

@@ -1,7 +1,6 @@
 -- Zeros, and two bytes that are replaced.
 use Rattle.std.proofs.Common.{◌≡◌, ℕ, ◌+◌, ◌≤◌, List, ◌∷◌, ◌++◌, length, take, drop, replicate, ap, ◌∙◌}
-use Rattle.std.proofs.Math.Seq.{take-append_seam, drop-append-add}
-use Rattle.std.proofs.lemmas.List.{take-replicate}
+use Rattle.std.proofs.{Math.Seq.take-append_seam, Math.Seq.drop-append-add, lemmas.List.take-replicate}
 
 pub front_zeros : (n : ℕ) → n ≤ 8 → take {A = ℕ} n (replicate 8 0) ≡ replicate n 0
 front_zeros n h = take-replicate n 8 0 h

@@ -1,9 +1,7 @@
 -- Items one after the other.
 use Rattle.std.proofs.Common.{◌≡◌, ℕ, ◌<◌, true, false, List, [], ◌∷◌, ◌++◌, length, drop, Option, Some, None, refl, sym, ap, subst, ◌∙◌, arith}
 use Rattle.std.proofs.lemmas.List.{append_assoc, append-nil}
-use Rattle.of_wire.specs.declared.code.Code.{Code}
-use Rattle.of_wire.specs.Refusals.{first_of}
-use Rattle.of_wire.specs.Items.{Items, IsItemsEnd, AreItems}
+use Rattle.of_wire.specs.{declared.code.Code.Code, Refusals.first_of, Items.Items, Items.IsItemsEnd, Items.AreItems}
 
 -- whatever stands for the rest completes the whole
 pub record Going {V : Type 0} (kind : Items V) (bytes : List ℕ) (seen : List V) (rest : List ℕ) : Type 0 where

@@ -1,7 +1,6 @@
 -- What an error of a reader says.
 use Rattle.std.specs.Prelude.{◌≡◌, Result, Ok, Err}
-use Rattle.of_wire.specs.declared.code.Code.{Code}
-use Rattle.of_wire.specs.declared.code.ReadError.{ReadError}
+use Rattle.of_wire.specs.{declared.code.Code.Code, declared.code.ReadError.ReadError}
 use Rattle.of_wire.specs.declared.code.ReadError.TheVariants as errors
 
 -- an error is that memory ran out, or a refusal for which this holds

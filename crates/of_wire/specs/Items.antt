@@ -1,7 +1,6 @@
 -- Items one after the other, each judged by those before it, until the bytes end or an item is refused.
 use Rattle.std.specs.Prelude.{◌≡◌, ◌<◌, ℕ, zero, suc, Bool, List, [], ◌∷◌, ◌++◌, length, drop, Option, Some, None, IsSome, Result, Ok, Err}
-use Rattle.of_wire.specs.declared.code.Code.{Code}
-use Rattle.of_wire.specs.Refusals.{first_of}
+use Rattle.of_wire.specs.{declared.code.Code.Code, Refusals.first_of}
 
 -- A kind of items: the refusals of the item that bytes begin with, after given values; the value of an item that is not refused; and its size.
 pub record Items (V : Type 0) : Type 0 where

@@ -1,6 +1,5 @@
 //! The names of errors (OpenFlow 1.3.5, 7.4.4).
-ghost use Rattle.std.specs.Prelude.{◌≡◌};
-ghost use Rattle.std.specs.Option.{option_map};
+ghost use Rattle.std.specs.{Prelude.◌≡◌, Option.option_map};
 ghost use Rattle.of_wire.specs.CodeNames.{error_name};
 
 use crate::code::Code;

@@ -1,6 +1,5 @@
 //! Parts of texts.
-ghost use Rattle.std.specs.Prelude.{◌≡◌, ◌<◌, length, IfSome};
-ghost use Rattle.std.specs.Option.{option_map};
+ghost use Rattle.std.specs.{Prelude.◌≡◌, Prelude.◌<◌, Prelude.length, Prelude.IfSome, Option.option_map};
 ghost use Rattle.of_wire.specs.Parts.{before_place, divided, keyword, nth_part};
 
 // The place of the first separator.

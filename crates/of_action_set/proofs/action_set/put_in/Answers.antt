@@ -1,7 +1,7 @@
 use Rattle.std.proofs.Common.{◌≡◌, ◌≤◌, ◌∙◌, length, arith, ap, sym, refl}
 use Rattle.std.proofs.lemmas.List.{take_at}
-use Rattle.of_action_set.specs.Sets.{rank}
 use Rattle.of_action_set.proofs.Ranked.{below, is_there, replaced_is_put, inserted_is_put, length-filter_le}
+use Rattle.of_action_set.specs.Sets.{rank}
 use Rattle.of_action_set.proofs.action_set.put_in.Goals as goal
 
 pub insert-requires : goal.insert-requires

@@ -1,11 +1,8 @@
 use Rattle.std.proofs.Common.{◌≡◌, ℕ, Bool, true, false, cond, eqb, List, refl, not, ◌&&◌}
-use Rattle.std.specs.Prelude.{Option, None}
-use Rattle.std.specs.List.{list_any}
-use Rattle.of_actions.specs.declared.action.Action.{Action}
-use Rattle.of_actions.specs.Rising.{is_ascending}
+use Rattle.std.specs.{Prelude.Option, Prelude.None, List.list_any}
+use Rattle.of_actions.specs.{declared.action.Action.Action, Rising.is_ascending}
 use Rattle.of_action_set.specs.Sets.{rank, is_group, is_output, in_order, held_action}
-use Rattle.of_action_set.proofs.Ranked.{rising-filter}
-use Rattle.of_action_set.proofs.Kinded.{few, find_not_output}
+use Rattle.of_action_set.proofs.{Ranked.rising-filter, Kinded.few, Kinded.find_not_output}
 use Rattle.of_action_set.proofs.laws.order_is_by_rank.Goals as goal
 
 rising_by : (set : List Action) (b : Bool) → list_any is_group set ≡ b → is_ascending rank set ≡ true → is_ascending rank (in_order set) ≡ true

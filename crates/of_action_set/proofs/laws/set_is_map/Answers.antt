@@ -1,5 +1,4 @@
-use Rattle.of_action_set.specs.Sets.{rank}
-use Rattle.of_action_set.proofs.Ranked.{find_put, rising_put, same_lists}
+use Rattle.of_action_set.{specs.Sets.rank, proofs.Ranked.find_put, proofs.Ranked.rising_put, proofs.Ranked.same_lists}
 use Rattle.of_action_set.proofs.laws.set_is_map.Goals as goal
 
 pub returns-clause-written : goal.returns-clause-written

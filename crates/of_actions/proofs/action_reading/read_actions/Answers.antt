@@ -1,6 +1,4 @@
-use Rattle.of_actions.specs.Actions.{actions_of}
-use Rattle.of_actions.proofs.ReaderLaws.{items_only, items_exact}
-use Rattle.of_actions.proofs.ActionsComputed.{actions_computed}
+use Rattle.of_actions.{specs.Actions.actions_of, proofs.ReaderLaws.items_only, proofs.ReaderLaws.items_exact, proofs.ActionsComputed.actions_computed}
 use Rattle.of_actions.proofs.action_reading.read_actions.Goals as goal
 
 pub returns-clause-only : goal.returns-clause-only

@@ -1,5 +1,4 @@
-use Rattle.std.proofs.Common.{sym, ◌∙◌, arith}
-use Rattle.std.proofs.lemmas.Bool.{eqb-true, eqb-false}
+use Rattle.std.proofs.{Common.sym, Common.◌∙◌, Common.arith, lemmas.Bool.eqb-true, lemmas.Bool.eqb-false}
 use Rattle.of_wire.proofs.Walking.{stops, is_done}
 use Rattle.of_actions.specs.Actions.{actions_of}
 use Rattle.of_actions.proofs.action_reading.read_all.Goals as goal

@@ -1,7 +1,6 @@
 use Rattle.std.proofs.Common.{length}
 use Rattle.of_wire.proofs.Walking.{Going}
-use Rattle.of_actions.specs.Actions.{actions_of}
-use Rattle.of_actions.proofs.ActionLists.{Supported}
+use Rattle.of_actions.{specs.Actions.actions_of, proofs.ActionLists.Supported}
 use Rattle.of_actions.proofs.action_reading.read_all.Given as goal
 
 abbrev pub invariant-loop-rest : goal.invariant-loop-rest

@@ -1,7 +1,5 @@
 use Rattle.std.proofs.Common.{rules, sym, subst, ◌≡◌, ◌≤◌, true, List, ℕ, [], None, length}
-use Rattle.of_actions.specs.Actions.{AreActions}
-use Rattle.of_actions.specs.CanonicalActions.{canonical_actions}
-use Rattle.of_actions.proofs.ActionsAgain.{canonical_encoded, canonical_short}
+use Rattle.of_actions.{specs.Actions.AreActions, specs.CanonicalActions.canonical_actions, proofs.ActionsAgain.canonical_encoded, proofs.ActionsAgain.canonical_short}
 use Rattle.of_actions.proofs.action_writing.write_actions.Goals as goal
 
 pub returns-clause-encoded : goal.returns-clause-encoded

@@ -1,8 +1,6 @@
-use Rattle.std.proofs.Common.{sym, ◌∙◌, arith}
-use Rattle.std.proofs.lemmas.Bool.{eqb-true, eqb-false}
+use Rattle.std.proofs.{Common.sym, Common.◌∙◌, Common.arith, lemmas.Bool.eqb-true, lemmas.Bool.eqb-false}
 use Rattle.of_wire.proofs.Walking.{goes_on, stops, is_done}
-use Rattle.of_actions.specs.Headers.{headers_of}
-use Rattle.of_actions.proofs.HeaderLists.{fine_push}
+use Rattle.of_actions.{specs.Headers.headers_of, proofs.HeaderLists.fine_push}
 use Rattle.of_actions.proofs.header_reading.read_headers.Goals as goal
 
 pub returns-in-Err-clause-refused : goal.returns-in-Err-clause-refused

@@ -1,7 +1,6 @@
 use Rattle.std.proofs.Common.{length}
 use Rattle.of_wire.proofs.Walking.{Going}
-use Rattle.of_actions.specs.Headers.{headers_of}
-use Rattle.of_actions.proofs.HeaderLists.{Fine}
+use Rattle.of_actions.{specs.Headers.headers_of, proofs.HeaderLists.Fine}
 use Rattle.of_actions.proofs.header_reading.read_headers.Given as goal
 
 abbrev pub invariant-loop-rest : goal.invariant-loop-rest

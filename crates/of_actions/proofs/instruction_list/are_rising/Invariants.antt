@@ -1,6 +1,5 @@
 use Rattle.std.proofs.Common.{◌≡◌, length}
-use Rattle.of_actions.specs.InstructionLists.{run_place}
-use Rattle.of_actions.specs.Rising.{is_ascending}
+use Rattle.of_actions.specs.{InstructionLists.run_place, Rising.is_ascending}
 use Rattle.of_actions.proofs.instruction_list.are_rising.Given as goal
 
 abbrev pub invariant-loop-rest : goal.invariant-loop-rest

@@ -1,13 +1,7 @@
-use Rattle.std.proofs.Common.{◌≡◌, true}
-use Rattle.std.specs.List.{list_all}
-use Rattle.std.proofs.lemmas.Result.{err_from_is_err_and}
+use Rattle.std.{specs.List.list_all, proofs.Common.◌≡◌, proofs.Common.true, proofs.lemmas.Result.err_from_is_err_and}
 use Rattle.of_wire.specs.Numbered.{is_distinct}
-use Rattle.of_actions.specs.Headers.{kind_of}
-use Rattle.of_actions.specs.Unread.{leads_on}
-use Rattle.of_actions.proofs.ReaderLaws.{fails_weaker}
-use Rattle.of_actions.proofs.Bodies.{places_once, bodies_for}
-use Rattle.of_actions.proofs.RunOrders.{order_kept, order_for}
-use Rattle.of_actions.proofs.InstructionLaws.{header_refused, body_refused}
+use Rattle.of_actions.{specs.Headers.kind_of, specs.Unread.leads_on, proofs.ReaderLaws.fails_weaker, proofs.Bodies.places_once, proofs.Bodies.bodies_for}
+use Rattle.of_actions.proofs.{RunOrders.order_kept, RunOrders.order_for, InstructionLaws.header_refused, InstructionLaws.body_refused}
 use Rattle.of_actions.proofs.instruction_reading.parse_instructions.Goals as goal
 
 pub returns-in_err-headers-clause-refused : goal.returns-in_err-headers-clause-refused

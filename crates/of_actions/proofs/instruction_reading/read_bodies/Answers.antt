@@ -1,7 +1,5 @@
-use Rattle.std.proofs.Common.{arith}
-use Rattle.std.proofs.lemmas.Result.{err_from_is_err_and}
-use Rattle.of_actions.proofs.Bodies.{body_refused, all_read}
-use Rattle.of_actions.proofs.ReaderLaws.{fails_weaker}
+use Rattle.std.proofs.{Common.arith, lemmas.Result.err_from_is_err_and}
+use Rattle.of_actions.proofs.{Bodies.body_refused, Bodies.all_read, ReaderLaws.fails_weaker}
 use Rattle.of_actions.proofs.instruction_reading.read_bodies.Goals as goal
 
 pub returns-in_err-instruction-clause-refused : goal.returns-in_err-instruction-clause-refused

@@ -1,7 +1,5 @@
-use Rattle.std.proofs.Common.{◌≡◌, true}
-use Rattle.std.specs.List.{list_all}
-use Rattle.of_actions.specs.InstructionLists.{is_served_body}
-use Rattle.of_actions.proofs.Bodies.{Reading}
+use Rattle.std.{specs.List.list_all, proofs.Common.◌≡◌, proofs.Common.true}
+use Rattle.of_actions.{specs.InstructionLists.is_served_body, proofs.Bodies.Reading}
 use Rattle.of_actions.proofs.instruction_reading.read_bodies.Given as goal
 
 abbrev pub invariant-loop-header : goal.invariant-loop-header

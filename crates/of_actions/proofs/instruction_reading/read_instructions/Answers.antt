@@ -1,5 +1,4 @@
-use Rattle.of_actions.proofs.InstructionLaws.{is_only, is_exact}
-use Rattle.of_actions.proofs.Computed.{is_computed}
+use Rattle.of_actions.proofs.{InstructionLaws.is_only, InstructionLaws.is_exact, Computed.is_computed}
 use Rattle.of_actions.proofs.instruction_reading.read_instructions.Goals as goal
 
 pub returns-clause-only : goal.returns-clause-only

@@ -1,5 +1,4 @@
-use Rattle.of_actions.proofs.InstructionsAgain.{instructions_encoded}
-use Rattle.of_actions.proofs.InstructionLengths.{instructions_short}
+use Rattle.of_actions.proofs.{InstructionsAgain.instructions_encoded, InstructionLengths.instructions_short}
 use Rattle.of_actions.proofs.instruction_writing.put_instructions.Goals as goal
 
 pub returns-clause-encoded : goal.returns-clause-encoded

@@ -1,9 +1,6 @@
 use Rattle.std.proofs.Common.{ap, ◌∙◌, ◌∷◌, ◌++◌, [], true, ℕ, List, length, arith}
 use Rattle.std.proofs.lemmas.List.{length-append}
-use Rattle.of_actions.specs.declared.action.Action.{Action as AnAction}
-use Rattle.of_actions.specs.CanonicalActions.{canonical_actions}
-use Rattle.of_actions.proofs.ActionsAgain.{canonical_short}
-use Rattle.of_actions.proofs.WithActions.{with_actions_is}
+use Rattle.of_actions.{specs.declared.action.Action.Action as AnAction, specs.CanonicalActions.canonical_actions, proofs.ActionsAgain.canonical_short, proofs.WithActions.with_actions_is}
 use Rattle.of_actions.proofs.instruction_writing.put_with_actions.Goals as goal
 
 pub overflow_cast-len : goal.overflow_cast-len

@@ -2,8 +2,7 @@ use Rattle.std.proofs.Common.{rules, ◌≡◌, ◌+◌, ◌-◌, ◌*◌, ◌++
 use Rattle.std.specs.Prelude.{OnOk}
 use Rattle.byteorder.specs.Endian.{big_bytes}
 use Rattle.of_layers.specs.Fields.{number_of, bytes_of}
-use Rattle.of_actions.specs.SetField.{set_len}
-use Rattle.of_actions.proofs.SetFieldText.{set_text_if}
+use Rattle.of_actions.{specs.SetField.set_len, proofs.SetFieldText.set_text_if}
 use Rattle.of_actions.proofs.set_field.put_set_field.Goals as goal
 
 pub returns : goal.returns

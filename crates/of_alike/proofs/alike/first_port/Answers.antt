@@ -1,7 +1,5 @@
-use Rattle.std.proofs.Common.{◌≡◌, ℕ, List, subst}
-use Rattle.std.specs.List.{Contains}
-use Rattle.of_alike.specs.Alike.{sent_by}
-use Rattle.of_alike.proofs.AlikeLemmas.{all_ports, if_none}
+use Rattle.std.{specs.List.Contains, proofs.Common.◌≡◌, proofs.Common.ℕ, proofs.Common.List, proofs.Common.subst}
+use Rattle.of_alike.{specs.Alike.sent_by, proofs.AlikeLemmas.all_ports, proofs.AlikeLemmas.if_none}
 use Rattle.of_alike.proofs.alike.first_port.Goals as goal
 
 pub returns-clause-none : goal.returns-clause-none

@@ -1,8 +1,7 @@
 use Rattle.std.proofs.Common.{◌≡◌, ◌<◌, true, false, List, length}
 use Rattle.std.specs.Borrow.{Bor}
 use Rattle.of_machine.specs.declared.data.Item.{Item}
-use Rattle.of_alike.specs.Alike.{leaving}
-use Rattle.of_alike.proofs.AlikeLemmas.{tells_alike}
+use Rattle.of_alike.{specs.Alike.leaving, proofs.AlikeLemmas.tells_alike}
 use Rattle.of_symbolic_run.proofs.Pairing.{first_longer, pairing_parts, pairing_told}
 use Rattle.of_alike.proofs.alike.is_alike_at.Goals as goal
 

@@ -1,5 +1,4 @@
-use Rattle.std.proofs.Common.{ℕ, take}
-use Rattle.std.specs.List.{Contains}
+use Rattle.std.{specs.List.Contains, proofs.Common.ℕ, proofs.Common.take}
 use Rattle.of_alike.proofs.AlikeLemmas.{IsListedOrSilent}
 use Rattle.of_alike.proofs.alike.push_ports.Given as goal
 

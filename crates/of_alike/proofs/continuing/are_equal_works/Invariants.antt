@@ -1,5 +1,4 @@
-use Rattle.std.proofs.Common.{drop}
-use Rattle.std.specs.Slice.Iter.{iter_rest}
+use Rattle.std.{specs.Slice.Iter.iter_rest, proofs.Common.drop}
 use Rattle.of_symbolic_run.proofs.Pairing.{SameIfLeft}
 use Rattle.of_alike.proofs.continuing.are_equal_works.Given as goal
 

@@ -1,5 +1,4 @@
-use Rattle.std.proofs.Common.{refl, subst, sym}
-use Rattle.std.proofs.lemmas.List.{drop_all}
+use Rattle.std.proofs.{Common.refl, Common.subst, Common.sym, lemmas.List.drop_all}
 use Rattle.of_alike.specs.Agreeing.{StayFrom}
 use Rattle.of_symbolic_run.proofs.Pairing.{at_index}
 use Rattle.of_alike.proofs.continuing.are_tasks_from.Goals as goal

@@ -1,10 +1,6 @@
 use Rattle.std.proofs.Common.{◌≡◌, List, ◌∷◌, Option, Some, None, length, drop, map, ap}
-use Rattle.std.specs.Borrow.{Bor}
-use Rattle.std.specs.Option.{MatchOption}
-use Rattle.std.specs.Slice.Iter.{iter_rest}
-use Rattle.std.proofs.lemmas.List.{drop_all}
-use Rattle.of_symbolic_run.specs.declared.state.SymbolicTask.{SymbolicTask}
-use Rattle.of_symbolic_run.proofs.Pairing.{at_index, no_elements, pairing_decided, pairing_goes_on}
+use Rattle.std.{specs.Borrow.Bor, specs.Option.MatchOption, specs.Slice.Iter.iter_rest, proofs.lemmas.List.drop_all}
+use Rattle.of_symbolic_run.{specs.declared.state.SymbolicTask.SymbolicTask, proofs.Pairing.at_index, proofs.Pairing.no_elements, proofs.Pairing.pairing_decided, proofs.Pairing.pairing_goes_on}
 use Rattle.of_alike.proofs.CopyLemmas.{copies_of_keys, key_of_copy, task_key}
 use Rattle.of_alike.proofs.continuing.have_equal_tasks.Goals as goal
 

@@ -1,5 +1,4 @@
-use Rattle.std.proofs.Common.{drop, map}
-use Rattle.std.specs.Slice.Iter.{iter_rest}
+use Rattle.std.{specs.Slice.Iter.iter_rest, proofs.Common.drop, proofs.Common.map}
 use Rattle.of_symbolic_run.proofs.Pairing.{SameIfLeft}
 use Rattle.of_alike.proofs.CopyLemmas.{task_key}
 use Rattle.of_alike.proofs.continuing.have_equal_tasks.Given as goal

@@ -1,9 +1,7 @@
 use Rattle.std.proofs.Common.{[], subst, map}
 use Rattle.of_action_set.specs.Sets.{with_actions}
 use Rattle.of_symbolic_run.specs.States.{work_for}
-use Rattle.of_alike.specs.Agreeing.{AreNoTable, WorkFrom}
-use Rattle.of_alike.proofs.Agreeing.{set_with_all}
-use Rattle.of_alike.proofs.AgreeingRuns.{all_no_table}
+use Rattle.of_alike.{specs.Agreeing.AreNoTable, specs.Agreeing.WorkFrom, proofs.Agreeing.set_with_all, proofs.AgreeingRuns.all_no_table}
 use Rattle.of_alike.proofs.continuing.is_task_from.Goals as goal
 
 pub returns : goal.returns

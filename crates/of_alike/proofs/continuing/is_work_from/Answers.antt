@@ -1,6 +1,5 @@
 use Rattle.std.proofs.Common.{subst}
-use Rattle.of_alike.specs.Agreeing.{IsNoTable}
-use Rattle.of_alike.proofs.AgreeingRuns.{is_no_table}
+use Rattle.of_alike.{specs.Agreeing.IsNoTable, proofs.AgreeingRuns.is_no_table}
 use Rattle.of_alike.proofs.continuing.is_work_from.Goals as goal
 
 pub returns-in-Act : goal.returns-in-Act

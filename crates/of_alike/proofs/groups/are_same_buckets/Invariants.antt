@@ -1,5 +1,4 @@
-use Rattle.std.proofs.Common.{drop, map}
-use Rattle.std.specs.Slice.Iter.{iter_rest}
+use Rattle.std.{specs.Slice.Iter.iter_rest, proofs.Common.drop, proofs.Common.map}
 use Rattle.of_alike.specs.SameGroups.{bucket_key}
 use Rattle.of_symbolic_run.proofs.Pairing.{SameIfLeft}
 use Rattle.of_alike.proofs.groups.are_same_buckets.Given as goal

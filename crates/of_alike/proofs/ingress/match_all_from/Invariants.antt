@@ -1,5 +1,4 @@
-use Rattle.std.proofs.Common.{take}
-use Rattle.std.specs.List.{All}
+use Rattle.std.{specs.List.All, proofs.Common.take}
 use Rattle.of_alike.specs.IngressPorts.{MatchesAllFrom}
 use Rattle.of_alike.proofs.ingress.match_all_from.Given as goal
 

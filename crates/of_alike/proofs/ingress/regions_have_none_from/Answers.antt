@@ -1,6 +1,4 @@
-use Rattle.std.proofs.Common.{subst, take_all}
-use Rattle.std.specs.List.{All}
-use Rattle.std.proofs.lemmas.List.Elements.{All-more}
+use Rattle.std.{specs.List.All, proofs.Common.subst, proofs.Common.take_all, proofs.lemmas.List.Elements.All-more}
 use Rattle.of_alike.specs.IngressPorts.{HasNoneFrom}
 use Rattle.of_alike.proofs.ingress.regions_have_none_from.Goals as goal
 

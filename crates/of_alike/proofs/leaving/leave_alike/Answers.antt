@@ -1,5 +1,4 @@
-use Rattle.of_alike.specs.Emitting.{LeaveAlike}
-use Rattle.of_alike.proofs.EmittingLemmas.{none_if}
+use Rattle.of_alike.{specs.Emitting.LeaveAlike, proofs.EmittingLemmas.none_if}
 use Rattle.of_alike.proofs.leaving.leave_alike.Goals as goal
 
 pub returns : goal.returns

@@ -1,8 +1,5 @@
-use Rattle.std.proofs.Common.{refl}
-use Rattle.std.specs.List.{All}
-use Rattle.of_alike.specs.Emitting.{IsAlikeFrom, LeaveAlike}
-use Rattle.of_alike.proofs.AlikeLemmas.{if_none}
-use Rattle.of_alike.proofs.SendingLemmas.{alike_from_each, none_leave_alike}
+use Rattle.std.{specs.List.All, proofs.Common.refl}
+use Rattle.of_alike.{specs.Emitting.IsAlikeFrom, specs.Emitting.LeaveAlike, proofs.AlikeLemmas.if_none, proofs.SendingLemmas.alike_from_each, proofs.SendingLemmas.none_leave_alike}
 use Rattle.of_alike.proofs.leaving.other_ingress.Goals as goal
 
 pub returns-then-are_empty-clause-none : goal.returns-then-are_empty-clause-none

@@ -1,8 +1,5 @@
 use Rattle.std.proofs.Common.{◌≡◌, true, List, ◌∷◌, Option, Some, None, length, drop, map, ap}
-use Rattle.std.specs.Borrow.{Bor}
-use Rattle.std.specs.Option.{MatchOption}
-use Rattle.std.specs.Slice.Iter.{iter_rest}
-use Rattle.std.proofs.lemmas.List.{drop_all, drop_more}
+use Rattle.std.{specs.Borrow.Bor, specs.Option.MatchOption, specs.Slice.Iter.iter_rest, proofs.lemmas.List.drop_all, proofs.lemmas.List.drop_more}
 use Rattle.of_ports.specs.declared.port.Port.{Port}
 use Rattle.of_alike.specs.SamePorts.{port_key}
 use Rattle.of_symbolic_run.proofs.Pairing.{no_elements, pairing_decided, pairing_goes_on, pairing_parts}

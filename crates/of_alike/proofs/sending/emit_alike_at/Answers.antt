@@ -1,6 +1,5 @@
 use Rattle.std.proofs.Common.{◌≡◌, [], refl}
-use Rattle.of_alike.specs.Emitting.{emitting_at}
-use Rattle.of_alike.proofs.EmittingLemmas.{none_if, same_end, same_more}
+use Rattle.of_alike.{specs.Emitting.emitting_at, proofs.EmittingLemmas.none_if, proofs.EmittingLemmas.same_end, proofs.EmittingLemmas.same_more}
 use Rattle.of_alike.proofs.sending.emit_alike_at.Goals as goal
 
 pub loop-emission-preserved : goal.loop-emission-preserved

@@ -1,8 +1,5 @@
-use Rattle.std.proofs.Common.{subst, take_all}
-use Rattle.std.specs.List.{All}
-use Rattle.std.proofs.lemmas.List.Elements.{All-more}
-use Rattle.of_alike.specs.Emitting.{IsAlikeBy}
-use Rattle.of_alike.proofs.SendingLemmas.{alike_by_each}
+use Rattle.std.{specs.List.All, proofs.Common.subst, proofs.Common.take_all, proofs.lemmas.List.Elements.All-more}
+use Rattle.of_alike.{specs.Emitting.IsAlikeBy, proofs.SendingLemmas.alike_by_each}
 use Rattle.of_alike.proofs.sending.send_alike_from.Goals as goal
 
 pub loop-port-preserved : goal.loop-port-preserved

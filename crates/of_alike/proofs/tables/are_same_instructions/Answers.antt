@@ -1,7 +1,4 @@
-use Rattle.std.proofs.Common.{◌≡◌, true, drop}
-use Rattle.std.specs.Borrow.{Bor}
-use Rattle.std.specs.Slice.Iter.{iter_rest}
-use Rattle.std.proofs.lemmas.List.{drop_all}
+use Rattle.std.{specs.Borrow.Bor, specs.Slice.Iter.iter_rest, proofs.Common.◌≡◌, proofs.Common.true, proofs.Common.drop, proofs.lemmas.List.drop_all}
 use Rattle.of_actions.specs.declared.instruction.Instruction.{Instruction}
 use Rattle.of_symbolic_run.proofs.Pairing.{at_index, no_elements, pairing_decided, pairing_goes_on, pairing_parts}
 use Rattle.of_alike.proofs.tables.are_same_instructions.Goals as goal

@@ -1,5 +1,4 @@
-use Rattle.std.proofs.Common.{◌≡◌, length, arith}
-use Rattle.std.proofs.lemmas.List.{take_rest}
+use Rattle.std.proofs.{Common.◌≡◌, Common.length, Common.arith, lemmas.List.take_rest}
 use Rattle.of_table.specs.Entries.{flows_of}
 use Rattle.of_alike.proofs.ChangedLemmas.{marked_more, none_marked, pointed}
 use Rattle.of_alike.proofs.tables.changed_among.Goals as goal

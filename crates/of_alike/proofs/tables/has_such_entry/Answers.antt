@@ -1,7 +1,6 @@
 use Rattle.std.proofs.Common.{◌≡◌, ◌⊎◌, zero, suc, true, List, ◌∷◌, map, ap, arith, inl, inr, subst, sym}
 use Rattle.std.specs.List.{Contains}
-use Rattle.of_table.specs.declared.entry.Entry.{Entry}
-use Rattle.of_table.specs.Entries.{entry_of, flows_of}
+use Rattle.of_table.specs.{declared.entry.Entry.Entry, Entries.entry_of, Entries.flows_of}
 use Rattle.of_alike.specs.SameTables.{EntrySays, says_of}
 use Rattle.of_alike.proofs.tables.has_such_entry.Goals as goal
 

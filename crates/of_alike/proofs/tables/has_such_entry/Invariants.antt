@@ -1,5 +1,4 @@
-use Rattle.std.proofs.Common.{map}
-use Rattle.std.specs.List.{Contains}
+use Rattle.std.{specs.List.Contains, proofs.Common.map}
 use Rattle.of_table.specs.Entries.{entry_of, flows_of}
 use Rattle.of_alike.specs.SameTables.{EntrySays, says_of}
 use Rattle.of_alike.proofs.tables.has_such_entry.Given as goal

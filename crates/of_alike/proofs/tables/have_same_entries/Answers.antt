@@ -1,8 +1,6 @@
 use Rattle.std.proofs.Common.{◌≡◌, true, List, [], ◌∷◌, map, Option, Some, None, ap}
-use Rattle.std.specs.Borrow.{Bor}
-use Rattle.std.specs.Option.{MatchOption}
-use Rattle.of_table.specs.declared.entry.Entry.{Entry}
-use Rattle.of_table.specs.Entries.{entry_of, flows_of}
+use Rattle.std.specs.{Borrow.Bor, Option.MatchOption}
+use Rattle.of_table.specs.{declared.entry.Entry.Entry, Entries.entry_of, Entries.flows_of}
 use Rattle.of_alike.specs.SameTables.{EntrySays, says_of}
 use Rattle.of_symbolic_run.proofs.Pairing.{pairing_decided, pairing_goes_on, pairing_parts}
 use Rattle.of_alike.proofs.tables.have_same_entries.Goals as goal

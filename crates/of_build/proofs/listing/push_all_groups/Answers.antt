@@ -1,8 +1,6 @@
 use Rattle.std.proofs.Common.{◌+◌, ◌++◌, List, length, ap, ◌∙◌}
-use Rattle.of_text.specs.Groups.{TextGroup}
-use Rattle.of_text.specs.Views.{view_groups}
-use Rattle.of_build.specs.Listing.{group_adds, in_turn, of_length}
-use Rattle.of_build.proofs.ListingLemmas.{three_passes}
+use Rattle.of_text.specs.{Groups.TextGroup, Views.view_groups}
+use Rattle.of_build.{specs.Listing.group_adds, specs.Listing.in_turn, specs.Listing.of_length, proofs.ListingLemmas.three_passes}
 use Rattle.of_build.proofs.listing.push_all_groups.Goals as goal
 
 pub returns-clause-messages : goal.returns-clause-messages

@@ -1,6 +1,5 @@
 use Rattle.std.proofs.Common.{List, ℕ, ◌∷◌, [], ◌++◌, ◌∙◌, ap, arith}
-use Rattle.of_build.proofs.ListingLemmas.{entries_next}
-use Rattle.of_build.proofs.ListingLemmas.{adds_next}
+use Rattle.of_build.proofs.ListingLemmas.{entries_next, adds_next}
 use Rattle.of_build.proofs.listing.push_flows.Goals as goal
 
 pub flow_message-requires : goal.flow_message-requires

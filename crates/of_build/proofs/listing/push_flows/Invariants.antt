@@ -1,7 +1,5 @@
-use Rattle.std.proofs.Common.{◌≡◌, ◌+◌, ◌++◌, drop}
-use Rattle.std.specs.List.{AllByRecursion}
-use Rattle.of_text.specs.Kept.{IsEntry}
-use Rattle.of_text.specs.Views.{view_flows}
+use Rattle.std.{specs.List.AllByRecursion, proofs.Common.◌≡◌, proofs.Common.◌+◌, proofs.Common.◌++◌, proofs.Common.drop}
+use Rattle.of_text.specs.{Kept.IsEntry, Views.view_flows}
 use Rattle.of_build.specs.Listing.{flow_adds}
 use Rattle.of_build.proofs.listing.push_flows.Given as goal
 

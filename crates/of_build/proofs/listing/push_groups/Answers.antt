@@ -1,11 +1,7 @@
 use Rattle.std.proofs.Common.{◌≡◌, ◌+◌, ℕ, eqb, length, get_or, refl, ap, arith}
 use Rattle.std.proofs.lemmas.List.{length-map}
-use Rattle.of_text.specs.Groups.{groups_at}
-use Rattle.of_text.specs.Views.{view_group, view_groups}
-use Rattle.of_text.proofs.SoundLemmas.{fit_next}
-use Rattle.of_text.proofs.WriteLemmas.{next_group}
-use Rattle.of_build.proofs.ListingLemmas.{next_length}
-use Rattle.of_build.proofs.ListingLemmas.{adding_start, adding_more}
+use Rattle.of_text.{specs.Groups.groups_at, specs.Views.view_group, specs.Views.view_groups, proofs.SoundLemmas.fit_next, proofs.WriteLemmas.next_group}
+use Rattle.of_build.proofs.ListingLemmas.{next_length, adding_start, adding_more}
 use Rattle.of_build.proofs.listing.push_groups.Goals as goal
 
 pub loop-group-init : goal.loop-group-init

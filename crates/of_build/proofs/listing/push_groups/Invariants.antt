@@ -1,7 +1,6 @@
 use Rattle.std.proofs.Common.{◌≡◌, eqb, drop}
 use Rattle.of_groups.specs.Chains.{chain}
-use Rattle.of_text.specs.Groups.{TextGroup, groups_at}
-use Rattle.of_text.specs.Views.{view_groups}
+use Rattle.of_text.specs.{Groups.TextGroup, Groups.groups_at, Views.view_groups}
 use Rattle.of_build.proofs.ListingLemmas.{Adding}
 use Rattle.of_build.proofs.listing.push_groups.Given as goal
 

@@ -1,6 +1,5 @@
 use Rattle.std.proofs.Common.{◌∙◌, ap, List, ℕ}
-use Rattle.of_c.specs.Calls.{status_with}
-use Rattle.of_c.proofs.GivingLemmas.{checked}
+use Rattle.of_c.{specs.Calls.status_with, proofs.GivingLemmas.checked}
 use Rattle.of_c.proofs.check.reported.Goals as goal
 
 pub returns-in-Ok : goal.returns-in-Ok

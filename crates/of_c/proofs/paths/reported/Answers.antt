@@ -1,9 +1,7 @@
 use Rattle.std.proofs.Common.{◌∙◌, ap, List, ℕ}
-use Rattle.of_c.specs.Calls.{status_with}
-use Rattle.of_c.proofs.AskedLemmas.{no_match}
-use Rattle.of_c.proofs.GivingLemmas.{paths_told}
-use Rattle.of_c.proofs.paths.reported.Goals as goal
+use Rattle.of_c.{specs.Calls.status_with, proofs.AskedLemmas.no_match, proofs.GivingLemmas.paths_told}
 use Rattle.of_c.proofs.paths.reported.Goals.{in-Ok-asked_of, in-Err-asked_of+in-Refused-1, in-Err-asked_of+in-NoMemory-1}
+use Rattle.of_c.proofs.paths.reported.Goals as goal
 
 pub returns : goal.returns
 returns c =

@@ -1,6 +1,5 @@
 use Rattle.std.proofs.Common.{◌∙◌, ap, length, List, ℕ, Bor}
-use Rattle.of_c.specs.Answers.{with_front}
-use Rattle.of_c.proofs.GivingLemmas.{printed}
+use Rattle.of_c.{specs.Answers.with_front, proofs.GivingLemmas.printed}
 use Rattle.of_c.proofs.replay.ofswitch_replay.Goals as goal
 
 pub returns : goal.returns

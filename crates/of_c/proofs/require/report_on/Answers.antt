@@ -1,10 +1,6 @@
 use Rattle.std.proofs.Common.{◌∙◌, ap, List, ℕ}
-use Rattle.of_c.specs.Calls.{status_with}
-use Rattle.of_c.specs.Requiring.{further_text, status_of_both}
-use Rattle.of_require.specs.declared.answers.Answer.{Answer as Found}
-use Rattle.of_require.specs.declared.deciding.Verdict.{Verdict}
-use Rattle.of_require.specs.Answers.{worst_of}
-use Rattle.of_c.proofs.GivingLemmas.{answered_by}
+use Rattle.of_c.{specs.Calls.status_with, specs.Requiring.further_text, specs.Requiring.status_of_both, proofs.GivingLemmas.answered_by}
+use Rattle.of_require.specs.{declared.answers.Answer.Answer as Found, declared.deciding.Verdict.Verdict, Answers.worst_of}
 use Rattle.of_c.proofs.require.report_on.Goals as goal
 
 pub returns : goal.returns

@@ -1,6 +1,5 @@
 use Rattle.std.proofs.Common.{refl, take_all, ◌∙◌}
-use Rattle.of_cache.specs.Regions.{region_of}
-use Rattle.of_cache.proofs.Popping.{none_by, more_by, all_by, at_place}
+use Rattle.of_cache.{specs.Regions.region_of, proofs.Popping.none_by, proofs.Popping.more_by, proofs.Popping.all_by, proofs.Popping.at_place}
 use Rattle.of_cache.proofs.beaten.drop_beaten.Goals as goal
 
 pub loop-each-init : goal.loop-each-init

@@ -1,5 +1,4 @@
-use Rattle.std.proofs.Common.{◌≡◌, not, take}
-use Rattle.std.specs.Prelude.{filter}
+use Rattle.std.{specs.Prelude.filter, proofs.Common.◌≡◌, proofs.Common.not, proofs.Common.take}
 use Rattle.of_cache.proofs.Popping.{goes_by}
 use Rattle.of_cache.proofs.beaten.drop_beaten.Given as goal
 

@@ -1,7 +1,5 @@
 use Rattle.std.proofs.Common.{sym, ◌∙◌, ap}
-use Rattle.of_headers.specs.declared.key.FieldKey.{FieldKey}
-use Rattle.of_headers.specs.FieldMap.{value}
-use Rattle.of_headers.proofs.SameFields.{equal_keys}
+use Rattle.of_headers.{specs.declared.key.FieldKey.FieldKey, specs.FieldMap.value, proofs.SameFields.equal_keys}
 use Rattle.of_cache.proofs.beaten.is_within.Goals as goal
 
 pub returns : goal.returns

@@ -1,6 +1,5 @@
 use Rattle.std.proofs.Common.{◌≡◌, List, [], ◌∷◌, map, refl, ap, ◌∙◌}
-use Rattle.std.specs.Map.Iter.{deref_pair}
-use Rattle.std.proofs.lemmas.Map.Iter.{iter_end}
+use Rattle.std.{specs.Map.Iter.deref_pair, proofs.lemmas.Map.Iter.iter_end}
 use Rattle.of_cache.specs.Held.{shown_row}
 use Rattle.of_cache.proofs.cached.rows_of.Goals as goal
 

@@ -1,5 +1,4 @@
-use Rattle.std.proofs.Common.{◌≡◌, map}
-use Rattle.std.specs.Map.Iter.{deref_pair}
+use Rattle.std.{specs.Map.Iter.deref_pair, proofs.Common.◌≡◌, proofs.Common.map}
 use Rattle.of_cache.specs.Held.{shown_row}
 use Rattle.of_cache.proofs.cached.rows_of.Given as goal
 

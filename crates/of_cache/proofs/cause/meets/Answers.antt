@@ -1,8 +1,7 @@
 use Rattle.std.proofs.Common.{◌∙◌}
 use Rattle.of_headers.specs.FieldMap.{value, seen}
 use Rattle.of_oxm.specs.Masks.{mask_at}
-use Rattle.of_cache.specs.Regions.{meets_seen}
-use Rattle.of_cache.proofs.Meeting.{keys_tell}
+use Rattle.of_cache.{specs.Regions.meets_seen, proofs.Meeting.keys_tell}
 use Rattle.of_cache.proofs.cause.meets.Goals as goal
 
 pub returns : goal.returns

@@ -1,13 +1,9 @@
 use Rattle.std.proofs.Common.{◌≡◌, ℕ, true, false, Option, sym, ◌∙◌, ap}
-use Rattle.std.specs.Option.{option_map_or, option_copied}
-use Rattle.std.specs.Map.{lookup}
+use Rattle.std.specs.{Option.option_map_or, Option.option_copied, Map.lookup}
 use Rattle.lru.specs.LruCache.{LruCache}
-use Rattle.of_cache.specs.declared.region.Region.{Region}
-use Rattle.of_cache.specs.Causes.{goes}
-use Rattle.of_cache.specs.Listed.{is_same_region}
-use Rattle.of_cache.proofs.Popping.{dropped}
-use Rattle.of_cache.proofs.dropping.drop_row.Goals as goal
+use Rattle.of_cache.{specs.declared.region.Region.Region, specs.Causes.goes, specs.Listed.is_same_region, proofs.Popping.dropped}
 use Rattle.of_cache.proofs.dropping.drop_row.Goals.{in-Some, in-None}
+use Rattle.of_cache.proofs.dropping.drop_row.Goals as goal
 
 pub returns-then-is_dropped-clause-entries : goal.returns-then-is_dropped-clause-entries
 returns-then-is_dropped-clause-entries c =

@@ -1,7 +1,5 @@
 use Rattle.std.proofs.Common.{refl, ◌∙◌}
-use Rattle.of_cache.specs.Causes.{goes}
-use Rattle.of_cache.proofs.Turning.{none_goes}
-use Rattle.of_cache.proofs.Popping.{same_staying_without}
+use Rattle.of_cache.{specs.Causes.goes, proofs.Turning.none_goes, proofs.Popping.same_staying_without}
 use Rattle.of_cache.proofs.dropping.drop_rows.Goals as goal
 
 pub loop-dropped-init : goal.loop-dropped-init

@@ -1,10 +1,6 @@
 use Rattle.std.proofs.Common.{◌≡◌, List, map, sym, ap, ◌∙◌}
-use Rattle.std.specs.Map.Iter.{deref_pair}
-use Rattle.std.specs.List.{list_any}
-use Rattle.std.proofs.lemmas.Map.Iter.{iter_end}
-use Rattle.of_cache.specs.Regions.{AnsweredRegion}
-use Rattle.of_cache.specs.Causes.{goes}
-use Rattle.of_cache.proofs.Popping.{none_more_goes}
+use Rattle.std.{specs.Map.Iter.deref_pair, specs.List.list_any, proofs.lemmas.Map.Iter.iter_end}
+use Rattle.of_cache.{specs.Regions.AnsweredRegion, specs.Causes.goes, proofs.Popping.none_more_goes}
 use Rattle.of_cache.proofs.dropping.first_that_goes.Goals as goal
 
 pub loop-region-preserved : goal.loop-region-preserved

@@ -1,7 +1,4 @@
-use Rattle.std.proofs.Common.{◌≡◌, false}
-use Rattle.std.specs.Prelude.{map}
-use Rattle.std.specs.List.{list_any}
-use Rattle.std.specs.Map.Iter.{deref_pair}
+use Rattle.std.{specs.Prelude.map, specs.List.list_any, specs.Map.Iter.deref_pair, proofs.Common.◌≡◌, proofs.Common.false}
 use Rattle.of_cache.specs.Causes.{goes}
 use Rattle.of_cache.proofs.dropping.first_that_goes.Given as goal
 

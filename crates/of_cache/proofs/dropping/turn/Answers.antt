@@ -1,8 +1,6 @@
 use Rattle.std.proofs.Common.{◌≡◌, ℕ, ◌∷◌, Bool, cond, Option, Some, sym, ◌∙◌, ap}
 use Rattle.lru.specs.LruCache.{LruCache}
-use Rattle.of_cache.specs.declared.region.Region.{Region}
-use Rattle.of_cache.specs.Causes.{goes}
-use Rattle.of_cache.proofs.Turning.{promoted_last}
+use Rattle.of_cache.{specs.declared.region.Region.Region, specs.Causes.goes, proofs.Turning.promoted_last}
 use Rattle.of_cache.proofs.dropping.turn.Goals as goal
 
 record ArePairs (a b : Region) (p q : Bool) : Type 0 where

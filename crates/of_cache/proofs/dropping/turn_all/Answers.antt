@@ -1,7 +1,5 @@
 use Rattle.std.proofs.Common.{not, refl, arith, ◌∙◌}
-use Rattle.of_cache.specs.Causes.{goes}
-use Rattle.of_cache.specs.Regions.{AnsweredRegion}
-use Rattle.of_cache.proofs.Turning.{none_turned, one_turned, all_turned}
+use Rattle.of_cache.{specs.Causes.goes, specs.Regions.AnsweredRegion, proofs.Turning.none_turned, proofs.Turning.one_turned, proofs.Turning.all_turned}
 use Rattle.of_cache.proofs.dropping.turn_all.Goals as goal
 
 pub loop-turned-init : goal.loop-turned-init

@@ -1,8 +1,6 @@
 -- so many of the last rows have turned
 use Rattle.std.proofs.Common.{◌≡◌, not}
-use Rattle.of_cache.specs.Causes.{goes}
-use Rattle.of_cache.specs.Regions.{AnsweredRegion}
-use Rattle.of_cache.proofs.Turning.{AreTurned}
+use Rattle.of_cache.{specs.Causes.goes, specs.Regions.AnsweredRegion, proofs.Turning.AreTurned}
 use Rattle.of_cache.proofs.dropping.turn_all.Given as goal
 
 abbrev pub invariant-loop-turned : goal.invariant-loop-turned

@@ -1,8 +1,6 @@
-use Rattle.std.proofs.Common.{rules, sym, List, subst}
-use Rattle.std.proofs.lemmas.Fn.{filter_same}
+use Rattle.std.proofs.{Common.rules, Common.sym, Common.List, Common.subst, lemmas.Fn.filter_same}
 use Rattle.of_oxm.specs.declared.masks.FieldMask.{FieldMask}
-use Rattle.of_cache.specs.Listed.{AreMasks}
-use Rattle.of_cache.proofs.Masks.{masks_left}
+use Rattle.of_cache.{specs.Listed.AreMasks, proofs.Masks.masks_left}
 use Rattle.of_cache.proofs.keeping.drop_masks.Goals as goal
 
 pub returns : goal.returns

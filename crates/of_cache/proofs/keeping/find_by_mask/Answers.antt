@@ -1,13 +1,9 @@
 use Rattle.std.proofs.Common.{◌≡◌, ℕ, ◌+◌, Option, Some, None, take, take_all, refl, sym, ◌∙◌, ap, subst}
-use Rattle.std.specs.Map.{lookup}
-use Rattle.std.specs.List.{Contains}
+use Rattle.std.specs.{Map.lookup, List.Contains}
 use Rattle.lru.specs.LruCache.{LruCache}
 use Rattle.of_headers.specs.FieldMap.{value}
-use Rattle.of_cache.specs.declared.region.Region.{Region}
-use Rattle.of_cache.specs.Finding.{IsHit, NoneHolds}
-use Rattle.of_cache.specs.Listed.{is_same_region}
-use Rattle.of_cache.specs.Regions.{region_of}
 use Rattle.of_cache.proofs.Splitting.{NoneUnder, hit, untouched, none_at_first, none_more, none_holds}
+use Rattle.of_cache.specs.{declared.region.Region.Region, Finding.IsHit, Finding.NoneHolds, Listed.is_same_region, Regions.region_of}
 use Rattle.of_cache.proofs.keeping.find_by_mask.Goals as goal
 
 pub loop-mask-init : goal.loop-mask-init

@@ -1,6 +1,5 @@
 use Rattle.std.proofs.Common.{None, Some, Ok, sym, ◌∙◌, ap}
-use Rattle.of_cache.proofs.Splitting.{stored}
-use Rattle.of_cache.proofs.Masks.{used_after}
+use Rattle.of_cache.proofs.{Splitting.stored, Masks.used_after}
 use Rattle.of_cache.proofs.keeping.push_row.Goals as goal
 
 pub returns-in-Ok-None-clause-rows : goal.returns-in-Ok-None-clause-rows

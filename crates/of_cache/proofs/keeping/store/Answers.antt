@@ -1,8 +1,6 @@
-use Rattle.std.proofs.Common.{List, sym, subst}
-use Rattle.std.specs.List.{IsDistinct}
+use Rattle.std.{specs.List.IsDistinct, proofs.Common.List, proofs.Common.sym, proofs.Common.subst}
 use Rattle.of_oxm.specs.declared.masks.FieldMask.{FieldMask}
-use Rattle.of_cache.specs.Listed.{AreListed, AreMasks, is_same_mask, with_mask}
-use Rattle.of_cache.proofs.Splitting.{listed_stored}
+use Rattle.of_cache.{specs.Listed.AreListed, specs.Listed.AreMasks, specs.Listed.is_same_mask, specs.Listed.with_mask, proofs.Splitting.listed_stored}
 use Rattle.of_cache.proofs.Masks.{masks_stored, with_kept, with_once, with_there}
 use Rattle.of_cache.proofs.keeping.store.Goals as goal
 

@@ -1,5 +1,4 @@
-use Rattle.std.proofs.Common.{◌≡◌, false, take}
-use Rattle.std.specs.List.{list_any}
+use Rattle.std.{specs.List.list_any, proofs.Common.◌≡◌, proofs.Common.false, proofs.Common.take}
 use Rattle.of_check.specs.Actions.{some_writes_sending}
 use Rattle.of_check.proofs.actions.is_written_before.Given as goal
 

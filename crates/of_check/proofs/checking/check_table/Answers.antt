@@ -1,9 +1,7 @@
 use Rattle.std.proofs.Common.{◌≡◌, ◌+◌, suc, ◌++◌, ◌∷◌, [], ap, length, arith, rules, refl}
 use Rattle.std.proofs.lemmas.Grind.{common_steps}
 use Rattle.of_table.specs.Tables.{table_at}
-use Rattle.of_check.specs.Findings.{entries_below}
-use Rattle.of_check.proofs.FindingLemmas.{one_more, table_done}
-use Rattle.of_check.proofs.OutlineLemmas.{as_many}
+use Rattle.of_check.{specs.Findings.entries_below, proofs.FindingLemmas.one_more, proofs.FindingLemmas.table_done, proofs.OutlineLemmas.as_many}
 use Rattle.of_check.proofs.checking.check_table.Goals as goal
 
 pub loop-place-preserved : goal.loop-place-preserved

@@ -1,5 +1,4 @@
-use Rattle.std.proofs.Common.{◌≡◌, false, take}
-use Rattle.std.specs.List.{list_any}
+use Rattle.std.{specs.List.list_any, proofs.Common.◌≡◌, proofs.Common.false, proofs.Common.take}
 use Rattle.of_check.specs.Groups.{table_names}
 use Rattle.of_check.proofs.groups.tables_name.Given as goal
 

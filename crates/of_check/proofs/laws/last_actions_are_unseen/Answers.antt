@@ -1,5 +1,4 @@
-use Rattle.of_check.proofs.SilentLemmas.{unseen}
-use Rattle.of_check.proofs.UsedLemmas.{unseen_later}
+use Rattle.of_check.proofs.{SilentLemmas.unseen, UsedLemmas.unseen_later}
 use Rattle.of_check.proofs.laws.last_actions_are_unseen.Goals as goal
 
 pub returns-clause-silent : goal.returns-clause-silent

@@ -1,9 +1,8 @@
 use Rattle.std.proofs.Common.{◌≡◌, ◌≢◌, ◌<◌, ℕ, true, false, subst, sym, ◌∙◌}
 use Rattle.of_text.specs.Configs.{Configuration, IsConfig}
-use Rattle.of_check.specs.Tables.{IsReached, is_reached}
-use Rattle.of_check.proofs.ReachLemmas.{reached_both}
-use Rattle.of_datapath.specs.Loading.{configuration_of}
+use Rattle.of_check.{specs.Tables.IsReached, specs.Tables.is_reached, proofs.ReachLemmas.reached_both}
 use Rattle.of_check.proofs.ReachedLemmas.{actions_at, at_others, frames_at}
+use Rattle.of_datapath.specs.Loading.{configuration_of}
 use Rattle.of_check.proofs.laws.runs_stay_at_reached_tables.Goals as goal
 
 -- another table than one that is not reached

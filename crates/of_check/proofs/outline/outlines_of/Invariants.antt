@@ -1,6 +1,5 @@
 use Rattle.std.proofs.Common.{◌≡◌, ◌++◌}
-use Rattle.of_table.specs.Entries.{flows_of}
-use Rattle.of_table.specs.Tables.{table_at}
+use Rattle.of_table.specs.{Entries.flows_of, Tables.table_at}
 use Rattle.of_check.specs.Outlines.{outlines_of}
 use Rattle.of_check.proofs.outline.outlines_of.Given as goal
 

@@ -1,7 +1,6 @@
 use Rattle.std.proofs.Common.{◌++◌}
 use Rattle.of_text.specs.Views.{view_flows}
-use Rattle.of_check.specs.Remarks.{flows_remarks}
-use Rattle.of_check.proofs.RemarkLemmas.{next_flow, no_flows}
+use Rattle.of_check.{specs.Remarks.flows_remarks, proofs.RemarkLemmas.next_flow, proofs.RemarkLemmas.no_flows}
 use Rattle.of_check.proofs.remarks.push_flows.Goals as goal
 
 pub loop-place-preserved : goal.loop-place-preserved

@@ -1,5 +1,4 @@
-use Rattle.std.proofs.Common.{◌≡◌, ◌++◌, drop}
-use Rattle.std.specs.List.{flat_map}
+use Rattle.std.{specs.List.flat_map, proofs.Common.◌≡◌, proofs.Common.◌++◌, proofs.Common.drop}
 use Rattle.of_text.specs.Views.{view}
 use Rattle.of_check.specs.Remarks.{ingress_remarks}
 use Rattle.of_check.proofs.remarks.push_ports.Given as goal

@@ -1,12 +1,8 @@
 use Rattle.std.proofs.Common.{◌≡◌, ◌∙◌, [], false, sym, subst, take_all}
-use Rattle.std.specs.Prelude.{slice_get, slice_index_or}
-use Rattle.std.specs.List.{All, Contains}
-use Rattle.std.proofs.lemmas.List.Elements.{All-more}
-use Rattle.of_table.specs.Entries.{entry_of}
-use Rattle.of_table.specs.Tables.{table_at}
+use Rattle.std.{specs.Prelude.slice_get, specs.Prelude.slice_index_or, specs.List.All, specs.List.Contains, proofs.lemmas.List.Elements.All-more}
+use Rattle.of_table.specs.{Entries.entry_of, Tables.table_at}
 use Rattle.of_regions.specs.declared.rival.Rival.{Rival}
-use Rattle.of_check.specs.Verdicts.{is_covering}
-use Rattle.of_check.proofs.OverlapLemmas.{any_default, none_covers, rival_covers}
+use Rattle.of_check.{specs.Verdicts.is_covering, proofs.OverlapLemmas.any_default, proofs.OverlapLemmas.none_covers, proofs.OverlapLemmas.rival_covers}
 use Rattle.of_check.proofs.rivals.first_cover.Goals as goal
 
 pub returns-then-covers_from-clause-found : goal.returns-then-covers_from-clause-found

@@ -1,6 +1,4 @@
-use Rattle.std.proofs.Common.{◌≡◌, false, take}
-use Rattle.std.specs.Prelude.{slice_get}
-use Rattle.std.specs.List.{All}
+use Rattle.std.{specs.Prelude.slice_get, specs.List.All, proofs.Common.◌≡◌, proofs.Common.false, proofs.Common.take}
 use Rattle.of_table.specs.Tables.{table_at}
 use Rattle.of_regions.specs.declared.rival.Rival.{Rival}
 use Rattle.of_check.specs.Verdicts.{is_covering}

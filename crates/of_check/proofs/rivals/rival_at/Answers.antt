@@ -1,6 +1,5 @@
 use Rattle.std.proofs.Common.{◌≡◌, refl, rules, true}
-use Rattle.of_table.specs.Entries.{entry_of}
-use Rattle.of_table.specs.Tables.{table_at}
+use Rattle.of_table.specs.{Entries.entry_of, Tables.table_at}
 use Rattle.of_check.proofs.RivalLemmas.{is_rival, outlines_tell}
 use Rattle.of_check.proofs.rivals.rival_at.Goals as goal
 

@@ -1,13 +1,9 @@
 use Rattle.std.proofs.Common.{◌∙◌, List, ap, arith, length, sym}
-use Rattle.std.specs.Prelude.{slice_get}
-use Rattle.std.proofs.lemmas.Option.{slice_get-get_or}
-use Rattle.of_table.specs.Entries.{entry_of}
-use Rattle.of_table.specs.Tables.{table_at}
-use Rattle.of_check.specs.declared.outline.Outline.{Outline}
-use Rattle.of_check.proofs.OutlineLemmas.{as_many, outline_at}
-use Rattle.of_check.proofs.RivalLemmas.{all_kept, one_kept, one_passed}
+use Rattle.std.{specs.Prelude.slice_get, proofs.lemmas.Option.slice_get-get_or}
+use Rattle.of_table.specs.{Entries.entry_of, Tables.table_at}
+use Rattle.of_check.{specs.declared.outline.Outline.Outline, proofs.OutlineLemmas.as_many, proofs.OutlineLemmas.outline_at}
+use Rattle.of_check.proofs.{RivalLemmas.all_kept, RivalLemmas.one_kept, RivalLemmas.one_passed, rivals.rivals_of.Goals.in-Some+in_ok-push, rivals.rivals_of.Goals.in_default}
 use Rattle.of_check.proofs.rivals.rivals_of.Goals as goal
-use Rattle.of_check.proofs.rivals.rivals_of.Goals.{in-Some+in_ok-push, in_default}
 
 pub rival_at-requires-clause-other : goal.rival_at-requires-clause-other
 rival_at-requires-clause-other g c =

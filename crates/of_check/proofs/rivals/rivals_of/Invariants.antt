@@ -1,5 +1,4 @@
-use Rattle.of_table.specs.Entries.{entry_of}
-use Rattle.of_table.specs.Tables.{table_at}
+use Rattle.of_table.specs.{Entries.entry_of, Tables.table_at}
 use Rattle.of_check.proofs.RivalLemmas.{AreRivalsBelow}
 use Rattle.of_check.proofs.rivals.rivals_of.Given as goal
 

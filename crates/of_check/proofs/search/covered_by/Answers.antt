@@ -1,7 +1,6 @@
 use Rattle.std.proofs.Common.{◌≡◌, [], ◌∷◌, ap, ◌∙◌, rules}
 use Rattle.of_table.specs.Tables.{table_at}
-use Rattle.of_check.specs.Verdicts.{is_tie}
-use Rattle.of_check.proofs.CoverLemmas.{cover_takes}
+use Rattle.of_check.{specs.Verdicts.is_tie, proofs.CoverLemmas.cover_takes}
 use Rattle.of_check.proofs.search.covered_by.Goals as goal
 
 pub returns : goal.returns

@@ -1,10 +1,8 @@
 use Rattle.std.proofs.Common.{◌∙◌, ap, inl, inr, subst}
-use Rattle.of_table.specs.Entries.{entry_of}
-use Rattle.of_table.specs.Tables.{table_at}
+use Rattle.of_table.specs.{Entries.entry_of, Tables.table_at}
 use Rattle.of_regions.specs.declared.searching.Found.TheVariants as found
 use Rattle.of_regions.specs.Searching.{Finds}
-use Rattle.of_check.specs.Verdicts.{is_tie}
-use Rattle.of_check.proofs.RivalLemmas.{free_wins, taking_never}
+use Rattle.of_check.{specs.Verdicts.is_tie, proofs.RivalLemmas.free_wins, proofs.RivalLemmas.taking_never}
 use Rattle.of_check.proofs.search.searched.Goals as goal
 
 pub returns-in-Free : goal.returns-in-Free

@@ -1,6 +1,5 @@
 use Rattle.std.proofs.Common.{◌<◌, length, arith, sym, ◌∙◌}
-use Rattle.of_table.specs.Entries.{entry_of}
-use Rattle.of_table.specs.Tables.{table_at}
+use Rattle.of_table.specs.{Entries.entry_of, Tables.table_at}
 use Rattle.of_check.proofs.TieLemmas.{is_tied, not_tied}
 use Rattle.of_check.proofs.ties.is_tied.Goals as goal
 

@@ -1,7 +1,6 @@
 use Rattle.std.proofs.Common.{◌≡◌, ℕ, ◌<◌, false, Some, get_or}
 use Rattle.std.specs.Prelude.{slice_get}
-use Rattle.of_table.specs.Entries.{entry_of}
-use Rattle.of_table.specs.Tables.{table_at}
+use Rattle.of_table.specs.{Entries.entry_of, Tables.table_at}
 use Rattle.of_check.specs.Verdicts.{are_level}
 use Rattle.of_check.proofs.ties.is_tied.Given as goal
 

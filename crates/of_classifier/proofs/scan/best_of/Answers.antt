@@ -1,8 +1,7 @@
 use Rattle.std.proofs.Common.{arith}
 use Rattle.of_headers.specs.FieldMap.{value}
-use Rattle.of_classifier.proofs.Best.{winner_more}
+use Rattle.of_classifier.proofs.{Best.winner_more, scan.best_of.Goals.then-matches, scan.best_of.Goals.else-matches}
 use Rattle.of_classifier.proofs.scan.best_of.Goals as goal
-use Rattle.of_classifier.proofs.scan.best_of.Goals.{then-matches, else-matches}
 
 pub loop-row-preserved : goal.loop-row-preserved
 loop-row-preserved c =

@@ -1,7 +1,6 @@
 use Rattle.std.proofs.Common.{◌≡◌, take}
 use Rattle.of_headers.specs.FieldMap.{value}
-use Rattle.of_classifier.specs.Winner.{winner_of}
-use Rattle.of_classifier.specs.Scanning.{pair_of}
+use Rattle.of_classifier.specs.{Winner.winner_of, Scanning.pair_of}
 use Rattle.of_classifier.proofs.scan.best_of.Given as goal
 
 -- the best of those before

@@ -1,11 +1,8 @@
 -- the bits of the rows before, which are matches
-use Rattle.std.proofs.Common.{◌≡◌, take}
-use Rattle.std.specs.List.{All}
+use Rattle.std.{specs.List.All, proofs.Common.◌≡◌, proofs.Common.take}
 use Rattle.of_layers.specs.declared.field.Field.{Field}
-use Rattle.of_oxm.specs.Masks.{mask_at}
-use Rattle.of_oxm.specs.NormalForm.{IsMatch}
-use Rattle.of_classifier.specs.declared.Row.{Row}
-use Rattle.of_classifier.specs.Looking.{looked_by}
+use Rattle.of_oxm.specs.{Masks.mask_at, NormalForm.IsMatch}
+use Rattle.of_classifier.specs.{declared.Row.Row, Looking.looked_by}
 use Rattle.of_classifier.proofs.scan.mask_of_all.Given as goal
 
 abbrev pub invariant-loop-row : goal.invariant-loop-row

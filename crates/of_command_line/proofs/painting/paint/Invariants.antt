@@ -1,5 +1,4 @@
-use Rattle.std.proofs.Common.{◌≡◌, ◌++◌, drop}
-use Rattle.std.specs.List.{flat_map}
+use Rattle.std.{specs.List.flat_map, proofs.Common.◌≡◌, proofs.Common.◌++◌, proofs.Common.drop}
 use Rattle.of_command_line.specs.Painted.{with_color}
 use Rattle.of_command_line.proofs.painting.paint.Given as goal
 

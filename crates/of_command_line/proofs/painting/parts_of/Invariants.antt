@@ -1,5 +1,4 @@
-use Rattle.std.proofs.Common.{◌≡◌, ◌++◌, length}
-use Rattle.std.specs.List.{flat_map}
+use Rattle.std.{specs.List.flat_map, proofs.Common.◌≡◌, proofs.Common.◌++◌, proofs.Common.length}
 use Rattle.of_command_line.specs.Painted.{without_color}
 use Rattle.of_command_line.proofs.painting.parts_of.Given as goal
 

@@ -1,9 +1,7 @@
-use Rattle.std.proofs.Common.{◌≡◌, ◌++◌}
-use Rattle.std.specs.Prelude.{map}
+use Rattle.std.{specs.Prelude.map, proofs.Common.◌≡◌, proofs.Common.◌++◌}
 use Rattle.of_table.specs.Entries.{flows_of}
 use Rattle.of_text.specs.Views.{view_flows}
-use Rattle.of_datapath.specs.Loading.{entry_text}
-use Rattle.of_datapath.proofs.ConfiguringLemmas.{AreKept}
+use Rattle.of_datapath.{specs.Loading.entry_text, proofs.ConfiguringLemmas.AreKept}
 use Rattle.of_datapath.proofs.configuring.flows_text.Given as goal
 
 abbrev pub invariant-loop-entry : goal.invariant-loop-entry

@@ -1,7 +1,5 @@
 use Rattle.std.proofs.Common.{arith}
-use Rattle.of_text.specs.Groups.{group_rows, group_text}
-use Rattle.of_text.specs.Views.{view_group}
-use Rattle.of_text.proofs.MadeLemmas.{mapped_more, fits_more}
+use Rattle.of_text.{specs.Groups.group_rows, specs.Groups.group_text, specs.Views.view_group, proofs.MadeLemmas.mapped_more, proofs.MadeLemmas.fits_more}
 use Rattle.of_datapath.proofs.configuring.groups_text.Goals as goal
 
 pub loop-group-preserved : goal.loop-group-preserved

@@ -1,9 +1,5 @@
-use Rattle.std.proofs.Common.{◌≡◌, ◌++◌, drop}
-use Rattle.std.specs.Prelude.{map}
-use Rattle.std.specs.List.{AllByRecursion}
-use Rattle.of_text.specs.Groups.{group_text, rows_of_groups}
-use Rattle.of_text.specs.Rows.{Fits}
-use Rattle.of_text.specs.Views.{view_group, view_groups}
+use Rattle.std.{specs.Prelude.map, specs.List.AllByRecursion, proofs.Common.◌≡◌, proofs.Common.◌++◌, proofs.Common.drop}
+use Rattle.of_text.specs.{Groups.group_text, Groups.rows_of_groups, Rows.Fits, Views.view_group, Views.view_groups}
 use Rattle.of_datapath.proofs.configuring.groups_text.Given as goal
 
 abbrev pub invariant-loop-group : goal.invariant-loop-group

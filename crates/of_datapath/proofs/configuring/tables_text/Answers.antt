@@ -1,11 +1,7 @@
 use Rattle.std.proofs.Common.{◌≡◌, ◌<◌, ◌∙◌, List, length, take, ap, subst, arith}
 use Rattle.std.proofs.lemmas.List.{take_all, length-map}
-use Rattle.of_table.specs.Entries.{table_of}
-use Rattle.of_table.specs.Table.{Table}
-use Rattle.of_table.specs.Tables.{tables_of}
-use Rattle.of_datapath.specs.Configuring.{AreKeptFrom}
-use Rattle.of_datapath.specs.Loading.{texts_from}
-use Rattle.of_datapath.proofs.ConfiguringLemmas.{table_more, table_kept_more}
+use Rattle.of_table.specs.{Entries.table_of, Table.Table, Tables.tables_of}
+use Rattle.of_datapath.{specs.Configuring.AreKeptFrom, specs.Loading.texts_from, proofs.ConfiguringLemmas.table_more, proofs.ConfiguringLemmas.table_kept_more}
 use Rattle.of_datapath.proofs.configuring.tables_text.Goals as goal
 
 pub loop-table-preserved : goal.loop-table-preserved

@@ -1,6 +1,5 @@
 use Rattle.std.proofs.Common.{slice_set}
-use Rattle.of_datapath.specs.Buffers.{given_since}
-use Rattle.of_datapath.proofs.Circle.{still_held, still_none, gone, emptied}
+use Rattle.of_datapath.{specs.Buffers.given_since, proofs.Circle.still_held, proofs.Circle.still_none, proofs.Circle.gone, proofs.Circle.emptied}
 use Rattle.of_datapath.proofs.laws.an_id_serves_until_used.Goals as goal
 
 pub returns-clause-kept : goal.returns-clause-kept

@@ -1,5 +1,4 @@
-use Rattle.std.proofs.Common.{◌+◌, drop, arith}
-use Rattle.std.proofs.lemmas.List.{drop_all}
+use Rattle.std.proofs.{Common.◌+◌, Common.drop, Common.arith, lemmas.List.drop_all}
 use Rattle.of_table.specs.Tables.{tables_of}
 use Rattle.of_text.specs.Views.{view_flows}
 use Rattle.of_datapath.proofs.LoadLemmas.{loading_start, loading_next, loading_more, loading_done, next_left, sixteen_tables}

@@ -1,8 +1,6 @@
 use Rattle.std.proofs.Common.{◌≤◌, flat_map}
-use Rattle.of_datapath.specs.Buffers.{last_id}
+use Rattle.of_datapath.{specs.Buffers.last_id, specs.Told.each_told, specs.Told.frames_for, specs.Told.given_items, proofs.Telling.Telling}
 use Rattle.of_machine.specs.Growth.{AllShort}
-use Rattle.of_datapath.specs.Told.{each_told, frames_for, given_items}
-use Rattle.of_datapath.proofs.Telling.{Telling}
 use Rattle.of_datapath.proofs.told.told_from.Given as goal
 
 abbrev pub invariant-loop-item : goal.invariant-loop-item

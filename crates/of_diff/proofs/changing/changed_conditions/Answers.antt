@@ -1,11 +1,8 @@
 use Rattle.std.proofs.Common.{ap, ◌∙◌, List, length, subst, arith}
-use Rattle.std.specs.Prelude.{slice_get, Bool}
-use Rattle.std.specs.Global.{Vec}
-use Rattle.std.specs.List.{Contains}
+use Rattle.std.specs.{Prelude.slice_get, Prelude.Bool, Global.Vec, List.Contains}
 use Rattle.of_oxm.specs.declared.match_field.MatchField.{MatchField}
 use Rattle.of_table.specs.Table.{FlowEntry}
-use Rattle.of_diff.specs.Changing.{IsAskedIn}
-use Rattle.of_diff.proofs.ChangingLemmas.{asked_more}
+use Rattle.of_diff.{specs.Changing.IsAskedIn, proofs.ChangingLemmas.asked_more}
 use Rattle.of_diff.proofs.changing.changed_conditions.Goals as goal
 
 pub returns-clause-first : goal.returns-clause-first

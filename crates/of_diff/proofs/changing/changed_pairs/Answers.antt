@@ -1,14 +1,10 @@
 use Rattle.std.proofs.Common.{◌≡◌, ◌≤◌, ◌+◌, ◌-◌, ℕ, List, Option, Result, IfOk, IfSome, arith, drop, length, subst, sym}
-use Rattle.std.specs.Global.{Vec}
-use Rattle.std.specs.List.{Contains}
+use Rattle.std.specs.{Global.Vec, List.Contains}
 use Rattle.of_oxm.specs.declared.match_field.MatchField.{MatchField}
 use Rattle.of_machine.specs.TheWorld.{TheWorld}
-use Rattle.of_datapath.specs.Datapath.{Forwarding, world_of}
-use Rattle.of_datapath.specs.Numbers.{forwarding_of}
+use Rattle.of_datapath.specs.{Datapath.Forwarding, Datapath.world_of, Numbers.forwarding_of}
 use Rattle.of_symbolic_run.specs.declared.frame_set.FrameSet.{FrameSet}
-use Rattle.of_diff.specs.declared.pair.Pair.{Pair}
-use Rattle.of_diff.specs.Changing.{AreAtTableBefore, AreMatchedSets, ArePairsOf, entries_in}
-use Rattle.of_diff.specs.NextPairs.{AreNextPairs}
+use Rattle.of_diff.specs.{declared.pair.Pair.Pair, Changing.AreAtTableBefore, Changing.AreMatchedSets, Changing.ArePairsOf, Changing.entries_in, NextPairs.AreNextPairs}
 use Rattle.of_diff.proofs.ChangingLemmas.{changed_are_pairs, changed_next, first_of_tasks, weaker_found}
 use Rattle.of_diff.proofs.changing.changed_pairs.Goals as goal
 

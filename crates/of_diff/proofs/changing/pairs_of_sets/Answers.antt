@@ -1,10 +1,8 @@
 use Rattle.std.proofs.Common.{ap, subst, sym, take, ◌∙◌, ◌++◌, ◌∷◌, [], List}
 use Rattle.std.proofs.lemmas.List.{take_all, take_more}
-use Rattle.of_datapath.specs.Datapath.{world_of}
-use Rattle.of_datapath.specs.Numbers.{forwarding_of}
+use Rattle.of_datapath.specs.{Datapath.world_of, Numbers.forwarding_of}
 use Rattle.of_symbolic_run.specs.declared.frame_set.FrameSet.{FrameSet}
-use Rattle.of_diff.specs.Changing.{ArePairsOf}
-use Rattle.of_diff.proofs.ChangingLemmas.{pairs_of_more}
+use Rattle.of_diff.{specs.Changing.ArePairsOf, proofs.ChangingLemmas.pairs_of_more}
 use Rattle.of_diff.proofs.changing.pairs_of_sets.Goals as goal
 
 pub loop-frames-preserved : goal.loop-frames-preserved

@@ -1,6 +1,5 @@
 use Rattle.std.proofs.Common.{take}
-use Rattle.of_datapath.specs.Datapath.{world_of}
-use Rattle.of_datapath.specs.Numbers.{forwarding_of}
+use Rattle.of_datapath.specs.{Datapath.world_of, Numbers.forwarding_of}
 use Rattle.of_machine.specs.TheWorld.{TheWorld}
 use Rattle.of_diff.specs.Changing.{ArePairsOf}
 use Rattle.of_diff.proofs.changing.pairs_of_sets.Given as goal

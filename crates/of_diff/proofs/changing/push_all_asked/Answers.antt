@@ -1,10 +1,7 @@
 use Rattle.std.proofs.Common.{List, ◌∷◌, Bool, ap, arith, length, subst, sym}
-use Rattle.std.specs.Slice.Iter.{iter_rest}
-use Rattle.std.proofs.lemmas.List.{length-map}
-use Rattle.of_table.specs.declared.entry.Entry.{Entry}
-use Rattle.of_table.specs.Entries.{entry_of, flows_of}
-use Rattle.of_diff.specs.Changing.{AreMarkedAskedIn}
-use Rattle.of_diff.proofs.ChangingLemmas.{asked_more, no_entries_asked, none_asked, one_asked}
+use Rattle.std.{specs.Slice.Iter.iter_rest, proofs.lemmas.List.length-map}
+use Rattle.of_table.specs.{declared.entry.Entry.Entry, Entries.entry_of, Entries.flows_of}
+use Rattle.of_diff.{specs.Changing.AreMarkedAskedIn, proofs.ChangingLemmas.asked_more, proofs.ChangingLemmas.no_entries_asked, proofs.ChangingLemmas.none_asked, proofs.ChangingLemmas.one_asked}
 use Rattle.of_symbolic_run.proofs.Pairing.{no_elements}
 use Rattle.of_diff.proofs.changing.push_all_asked.Goals as goal
 

@@ -1,14 +1,9 @@
-use Rattle.std.specs.Global.{Vec}
-use Rattle.std.specs.Slice.Iter.{iter_rest}
-use Rattle.std.proofs.Common.{◌≤◌, ◌+◌, List, length}
+use Rattle.std.{specs.Global.Vec, specs.Slice.Iter.iter_rest, proofs.Common.◌≤◌, proofs.Common.◌+◌, proofs.Common.List, proofs.Common.length}
 use Rattle.of_actions.specs.declared.action.Action.{Action}
 use Rattle.of_oxm.specs.declared.match_field.MatchField.{MatchField}
-use Rattle.of_symbolic.specs.Actions.{AreRewriting}
-use Rattle.of_symbolic.specs.Overlays.{IsOverlay}
-use Rattle.of_symbolic.specs.Parts.{AreListsOfConditions}
+use Rattle.of_symbolic.specs.{Actions.AreRewriting, Overlays.IsOverlay, Parts.AreListsOfConditions}
 use Rattle.of_table.specs.Entries.{flows_of}
-use Rattle.of_diff.specs.Changing.{AreMarkedAskedIn}
-use Rattle.of_diff.proofs.ChangingLemmas.{HasAll}
+use Rattle.of_diff.{specs.Changing.AreMarkedAskedIn, proofs.ChangingLemmas.HasAll}
 use Rattle.of_diff.proofs.changing.push_all_asked.Given as goal
 
 abbrev pub invariant-loop-entry : goal.invariant-loop-entry

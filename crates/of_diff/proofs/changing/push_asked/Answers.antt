@@ -1,7 +1,5 @@
 use Rattle.std.proofs.Common.{List, sym, subst, ◌∙◌, inl, inr}
-use Rattle.std.specs.Global.{Vec}
-use Rattle.std.specs.List.{Contains}
-use Rattle.std.proofs.lemmas.List.Elements.{Contains-push, Contains-push_cases}
+use Rattle.std.{specs.Global.Vec, specs.List.Contains, proofs.lemmas.List.Elements.Contains-push, proofs.lemmas.List.Elements.Contains-push_cases}
 use Rattle.of_oxm.specs.declared.match_field.MatchField.{MatchField}
 use Rattle.of_regions.specs.Conditions.{AreConditions}
 use Rattle.of_symbolic.specs.Pulling.{AsksConditions, IsTrueOfFrames}

@@ -1,7 +1,5 @@
-use Rattle.of_datapath.specs.Datapath.{world_of}
-use Rattle.of_datapath.specs.Numbers.{forwarding_of}
-use Rattle.of_diff.proofs.CutLemmas.{go_on_treated_alike}
-use Rattle.of_diff.proofs.ReasonLemmas.{both_go_on}
+use Rattle.of_datapath.specs.{Datapath.world_of, Numbers.forwarding_of}
+use Rattle.of_diff.proofs.{CutLemmas.go_on_treated_alike, ReasonLemmas.both_go_on}
 use Rattle.of_diff.proofs.cutting.compare_rests.Goals as goal
 
 pub compare_sent-requires-clause-settled : goal.compare_sent-requires-clause-settled

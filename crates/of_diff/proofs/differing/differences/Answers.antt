@@ -1,10 +1,7 @@
-use Rattle.std.proofs.Common.{◌≡◌, ℕ, sym, subst}
-use Rattle.std.proofs.lemmas.List.Elements.{Contains-push}
-use Rattle.of_datapath.specs.Datapath.{world_of}
-use Rattle.of_datapath.specs.Numbers.{forwarding_of}
-use Rattle.of_diff.specs.Reasons.{ArePairsAfter}
+use Rattle.std.proofs.{Common.◌≡◌, Common.ℕ, Common.sym, Common.subst, lemmas.List.Elements.Contains-push}
+use Rattle.of_datapath.specs.{Datapath.world_of, Numbers.forwarding_of}
 use Rattle.of_diff.proofs.FindingLemmas.{all_taken, at_most, ends, first_of_none, no_length, running_begins, running_more}
-use Rattle.of_diff.proofs.SameLemmas.{agree_from_first, nothing_differs}
+use Rattle.of_diff.{specs.Reasons.ArePairsAfter, proofs.SameLemmas.agree_from_first, proofs.SameLemmas.nothing_differs}
 use Rattle.of_diff.proofs.differing.differences.Goals as goal
 
 pub returns-then-agree_in_all-clause-some : goal.returns-then-agree_in_all-clause-some

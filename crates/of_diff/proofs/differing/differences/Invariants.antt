@@ -1,5 +1,4 @@
-use Rattle.of_datapath.specs.Datapath.{world_of}
-use Rattle.of_datapath.specs.Numbers.{forwarding_of}
+use Rattle.of_datapath.specs.{Datapath.world_of, Numbers.forwarding_of}
 use Rattle.of_diff.proofs.FindingLemmas.{IsRunning}
 use Rattle.of_diff.proofs.differing.differences.Given as goal
 

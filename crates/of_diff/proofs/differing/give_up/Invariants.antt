@@ -1,9 +1,7 @@
 use Rattle.std.proofs.Common.{ℕ, length}
 use Rattle.of_machine.specs.TheWorld.{TheWorld}
 use Rattle.of_alike.specs.declared.alike.Compared.{Compared}
-use Rattle.of_diff.specs.Reasons.{ArePairsAfter}
-use Rattle.of_diff.specs.SoFar.{IsSoFar}
-use Rattle.of_diff.proofs.FindingLemmas.{AreLeaving}
+use Rattle.of_diff.{specs.Reasons.ArePairsAfter, specs.SoFar.IsSoFar, proofs.FindingLemmas.AreLeaving}
 use Rattle.of_diff.proofs.differing.give_up.Given as goal
 
 abbrev pub invariant-loop-pair : goal.invariant-loop-pair

@@ -1,11 +1,8 @@
-use Rattle.std.proofs.Common.{ℕ}
-use Rattle.std.proofs.lemmas.Result.{IfOk-weaker}
-use Rattle.of_datapath.specs.Datapath.{world_of}
-use Rattle.of_datapath.specs.Numbers.{forwarding_of}
+use Rattle.std.proofs.{Common.ℕ, lemmas.Result.IfOk-weaker}
+use Rattle.of_datapath.specs.{Datapath.world_of, Numbers.forwarding_of}
 use Rattle.of_symbolic_run.specs.declared.finding.FrameFound.TheVariants.{Empty, Frame, Undecided}
 use Rattle.of_symbolic_run.specs.FrameSets.{FindsFrame}
-use Rattle.of_diff.specs.Shown.{TriedIs}
-use Rattle.of_diff.proofs.EndedLemmas.{ingress_fits, same_receiving}
+use Rattle.of_diff.{specs.Shown.TriedIs, proofs.EndedLemmas.ingress_fits, proofs.EndedLemmas.same_receiving}
 use Rattle.of_diff.proofs.ending.try_frame.Goals as goal
 
 pub returns-in-Frame : goal.returns-in-Frame

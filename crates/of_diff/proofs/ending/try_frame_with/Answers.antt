@@ -1,5 +1,4 @@
-use Rattle.of_datapath.specs.Datapath.{world_of}
-use Rattle.of_datapath.specs.Numbers.{forwarding_of}
+use Rattle.of_datapath.specs.{Datapath.world_of, Numbers.forwarding_of}
 use Rattle.of_symbolic_run.proofs.ReceivedLemmas.{fewer_received}
 use Rattle.of_diff.proofs.GatheringLemmas.{shown_in_more}
 use Rattle.of_diff.proofs.ending.try_frame_with.Goals as goal

@@ -1,13 +1,9 @@
-use Rattle.std.proofs.Common.{ℕ, refl}
-use Rattle.of_datapath.specs.Datapath.{world_of}
-use Rattle.of_datapath.specs.Numbers.{forwarding_of}
-use Rattle.std.proofs.lemmas.Result.{IfOk-weaker}
+use Rattle.std.proofs.{Common.ℕ, Common.refl, lemmas.Result.IfOk-weaker}
+use Rattle.of_datapath.specs.{Datapath.world_of, Numbers.forwarding_of}
 use Rattle.of_machine.specs.TheWorld.{TheWorld}
-use Rattle.of_diff.specs.Shown.{IsShown, TriedIs}
-use Rattle.of_diff.specs.SoFar.{NextIs}
-use Rattle.of_diff.specs.declared.ending.Tried.TheVariants.{Empty, Undecided}
-use Rattle.of_alike.specs.declared.alike.Compared.{Compared}
+use Rattle.of_diff.specs.{Shown.IsShown, Shown.TriedIs, SoFar.NextIs, declared.ending.Tried.TheVariants.Empty, declared.ending.Tried.TheVariants.Undecided}
 use Rattle.of_diff.proofs.ReasonLemmas.{settled_reason}
+use Rattle.of_alike.specs.declared.alike.Compared.{Compared}
 use Rattle.of_diff.proofs.ending.try_pair.Goals as goal
 
 pub returns-in-Shown : goal.returns-in-Shown

@@ -1,6 +1,5 @@
 use Rattle.std.proofs.Common.{refl}
-use Rattle.of_diff.specs.Pairs.{IsByFirst}
-use Rattle.of_diff.proofs.PairLemmas.{more_lined_up}
+use Rattle.of_diff.{specs.Pairs.IsByFirst, proofs.PairLemmas.more_lined_up}
 use Rattle.of_diff.proofs.pair.pairs_by_first.Goals as goal
 
 pub loop-case-preserved : goal.loop-case-preserved

@@ -1,6 +1,5 @@
 use Rattle.std.proofs.Common.{refl}
-use Rattle.of_diff.specs.Pairs.{IsBySecond}
-use Rattle.of_diff.proofs.PairLemmas.{more_lined_up}
+use Rattle.of_diff.{specs.Pairs.IsBySecond, proofs.PairLemmas.more_lined_up}
 use Rattle.of_diff.proofs.pair.pairs_by_second.Goals as goal
 
 pub loop-case-preserved : goal.loop-case-preserved

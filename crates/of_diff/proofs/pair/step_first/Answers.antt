@@ -1,9 +1,7 @@
 use Rattle.std.proofs.Common.{refl, inl}
-use Rattle.of_datapath.specs.Datapath.{world_of}
-use Rattle.of_datapath.specs.Numbers.{forwarding_of}
-use Rattle.of_diff.specs.declared.pair.Pair.{Pair}
-use Rattle.of_diff.specs.NextPairs.{IsNextPair}
+use Rattle.of_datapath.specs.{Datapath.world_of, Numbers.forwarding_of}
 use Rattle.of_diff.proofs.PairLemmas.{first_advanced, first_divided, first_next, one_next, state_itself}
+use Rattle.of_diff.specs.{declared.pair.Pair.Pair, NextPairs.IsNextPair}
 use Rattle.of_diff.proofs.pair.step_first.Goals as goal
 
 pub returns-in-Advanced : goal.returns-in-Advanced

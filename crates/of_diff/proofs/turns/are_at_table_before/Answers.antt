@@ -1,6 +1,5 @@
 use Rattle.std.proofs.Common.{◌≡◌, ◌∙◌, ℕ, ap, drop, refl, subst, sym}
-use Rattle.of_symbolic_run.specs.States.{answer_to_tasks}
-use Rattle.of_symbolic_run.specs.declared.advance.Advance.TheVariants.{Lookup}
+use Rattle.of_symbolic_run.specs.{States.answer_to_tasks, declared.advance.Advance.TheVariants.Lookup}
 use Rattle.of_alike.specs.Agreeing.{StayFrom}
 use Rattle.of_diff.proofs.TaskLemmas.{all_behind, first_set}
 use Rattle.of_diff.proofs.turns.are_at_table_before.Goals as goal

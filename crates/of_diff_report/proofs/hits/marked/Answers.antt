@@ -1,9 +1,7 @@
 use Rattle.std.proofs.Common.{◌≡◌, ◌++◌, ◌∷◌, ◌+◌, ◌∙◌, List, [], ap, append_assoc, drop, map, sym}
-use Rattle.std.proofs.lemmas.List.{drop_more, map-append}
-use Rattle.std.proofs.lemmas.List.Elements.{All-push}
+use Rattle.std.proofs.{lemmas.List.drop_more, lemmas.List.map-append, lemmas.List.Elements.All-push}
 use Rattle.of_json.specs.declared.hits.Hit.{Hit}
-use Rattle.of_diff_report.specs.Changed.{IsMarked, hit_of}
-use Rattle.of_diff_report.specs.declared.hits.MarkedHit.{MarkedHit}
+use Rattle.of_diff_report.specs.{Changed.IsMarked, Changed.hit_of, declared.hits.MarkedHit.MarkedHit}
 use Rattle.of_diff_report.proofs.hits.marked.Goals as goal
 
 pub loop-hit-preserved : goal.loop-hit-preserved

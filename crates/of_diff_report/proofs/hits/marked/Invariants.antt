@@ -1,5 +1,4 @@
-use Rattle.std.proofs.Common.{◌≡◌, ◌++◌, drop, map}
-use Rattle.std.specs.List.{All}
+use Rattle.std.{specs.List.All, proofs.Common.◌≡◌, proofs.Common.◌++◌, proofs.Common.drop, proofs.Common.map}
 use Rattle.of_diff_report.specs.Changed.{IsMarked, hit_of}
 use Rattle.of_diff_report.proofs.hits.marked.Given as goal
 

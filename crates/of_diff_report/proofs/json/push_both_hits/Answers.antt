@@ -1,5 +1,4 @@
-use Rattle.of_diff_report.specs.DiffJson.{both_hits_members}
-use Rattle.of_diff_report.proofs.AppendLemmas.{two_pieces}
+use Rattle.of_diff_report.{specs.DiffJson.both_hits_members, proofs.AppendLemmas.two_pieces}
 use Rattle.of_diff_report.proofs.json.push_both_hits.Goals as goal
 
 pub returns : goal.returns

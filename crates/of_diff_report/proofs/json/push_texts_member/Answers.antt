@@ -1,6 +1,5 @@
 use Rattle.std.proofs.Common.{◌∙◌, ◌++◌, ◌∷◌, ℕ, List, [], ap, append_assoc}
-use Rattle.of_json.specs.Parts.{key}
-use Rattle.of_json.specs.Strings.{array_member}
+use Rattle.of_json.specs.{Parts.key, Strings.array_member}
 use Rattle.of_diff_report.proofs.json.push_texts_member.Goals as goal
 
 pub returns : goal.returns

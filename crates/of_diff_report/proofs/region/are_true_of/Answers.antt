@@ -1,8 +1,7 @@
 use Rattle.std.proofs.Common.{◌≡◌, ◌∙◌, false, sym, true}
 use Rattle.std.specs.List.{list_any}
 use Rattle.of_symbolic.specs.InnerTags.{description_of}
-use Rattle.of_symbolic_run.specs.FrameSets.{is_about_metadata}
-use Rattle.of_symbolic_run.proofs.MetadataLemmas.{same_conditions}
+use Rattle.of_symbolic_run.{specs.FrameSets.is_about_metadata, proofs.MetadataLemmas.same_conditions}
 use Rattle.of_diff_report.proofs.region.are_true_of.Goals as goal
 use Rattle.of_diff_report.proofs.region.are_true_of.Goals.{then-not-any_about_metadata, else-not-any_about_metadata}
 

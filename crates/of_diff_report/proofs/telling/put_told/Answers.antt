@@ -1,6 +1,5 @@
 use Rattle.std.proofs.Common.{refl}
-use Rattle.of_diff_report.specs.Telling.{own}
-use Rattle.of_diff_report.proofs.TellingLemmas.{told_at}
+use Rattle.of_diff_report.{specs.Telling.own, proofs.TellingLemmas.told_at}
 use Rattle.of_diff_report.proofs.telling.put_told.Goals as goal
 
 pub returns-in_ok-push-in-None : goal.returns-in_ok-push-in-None

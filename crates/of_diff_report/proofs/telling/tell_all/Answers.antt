@@ -1,8 +1,7 @@
 use Rattle.std.proofs.Common.{◌≡◌, ◌+◌, ◌∷◌, drop, subst}
 use Rattle.of_diff.specs.declared.difference.Difference.{Difference}
 use Rattle.of_symbolic_run.proofs.Pairing.{at_index}
-use Rattle.of_diff_report.specs.Telling.{PutsTold}
-use Rattle.of_diff_report.proofs.TellingLemmas.{tell_more}
+use Rattle.of_diff_report.{specs.Telling.PutsTold, proofs.TellingLemmas.tell_more}
 use Rattle.of_diff_report.proofs.telling.tell_all.Goals as goal
 
 pub loop-difference-preserved : goal.loop-difference-preserved

@@ -1,6 +1,5 @@
 use Rattle.std.proofs.Common.{drop, List, []}
-use Rattle.of_diff_report.specs.declared.telling.Told.{Told}
-use Rattle.of_diff_report.specs.Telling.{PutsAllTold}
+use Rattle.of_diff_report.specs.{declared.telling.Told.Told, Telling.PutsAllTold}
 use Rattle.of_diff_report.proofs.telling.tell_all.Given as goal
 
 abbrev pub invariant-loop-difference : goal.invariant-loop-difference

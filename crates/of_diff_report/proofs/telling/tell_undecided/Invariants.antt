@@ -1,5 +1,4 @@
-use Rattle.std.proofs.Common.{◌≡◌, ◌++◌, drop, map}
-use Rattle.std.specs.List.{AllByRecursion}
+use Rattle.std.{specs.List.AllByRecursion, proofs.Common.◌≡◌, proofs.Common.◌++◌, proofs.Common.drop, proofs.Common.map}
 use Rattle.of_diff_report.specs.Telling.{HasRegion, set_of}
 use Rattle.of_diff_report.proofs.telling.tell_undecided.Given as goal
 

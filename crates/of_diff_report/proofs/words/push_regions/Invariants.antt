@@ -1,6 +1,5 @@
 use Rattle.std.proofs.Common.{◌≡◌, ◌++◌, drop}
-use Rattle.of_diff_report.specs.DiffWords.{regions_of}
-use Rattle.of_diff_report.specs.declared.words.TheConstants.{REGIONS}
+use Rattle.of_diff_report.specs.{DiffWords.regions_of, declared.words.TheConstants.REGIONS}
 use Rattle.of_diff_report.proofs.words.push_regions.Given as goal
 
 abbrev pub invariant-loop-set : goal.invariant-loop-set

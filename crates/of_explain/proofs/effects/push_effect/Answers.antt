@@ -1,6 +1,5 @@
 use Rattle.std.proofs.Common.{◌++◌, ◌∙◌, ap, append_assoc, codes, List, ℕ}
-use Rattle.of_explain.specs.Messages.{message_words}
-use Rattle.of_explain.specs.Notes.{port_and_size}
+use Rattle.of_explain.specs.{Messages.message_words, Notes.port_and_size}
 use Rattle.of_explain.proofs.effects.push_effect.Goals as goal
 
 pub returns-in_ok-push_message-in-Answer : goal.returns-in_ok-push_message-in-Answer

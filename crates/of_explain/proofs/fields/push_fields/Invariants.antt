@@ -1,5 +1,4 @@
-use Rattle.std.proofs.Common.{◌≡◌, ◌++◌, drop, map}
-use Rattle.std.specs.Prelude.{IsTrue}
+use Rattle.std.{specs.Prelude.IsTrue, proofs.Common.◌≡◌, proofs.Common.◌++◌, proofs.Common.drop, proofs.Common.map}
 use Rattle.of_explain.specs.Fields.{are_short, field_of, fields_words}
 use Rattle.of_explain.proofs.fields.push_fields.Given as goal
 

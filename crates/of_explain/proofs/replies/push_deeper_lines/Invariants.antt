@@ -1,5 +1,4 @@
-use Rattle.std.proofs.Common.{◌≡◌, ◌++◌, drop}
-use Rattle.std.specs.List.{AllByRecursion}
+use Rattle.std.{specs.List.AllByRecursion, proofs.Common.◌≡◌, proofs.Common.◌++◌, proofs.Common.drop}
 use Rattle.of_text.specs.Rows.{Fits}
 use Rattle.of_explain.specs.Replies.{deeper_lines}
 use Rattle.of_explain.proofs.replies.push_deeper_lines.Given as goal

@@ -1,6 +1,5 @@
 use Rattle.std.proofs.Common.{ℕ, List, ◌++◌, ◌∙◌, ap, sym}
-use Rattle.of_explain.specs.Replies.{reply_row}
-use Rattle.of_explain.proofs.ReplyLemmas.{printed_more, printed_all, fewer_bytes}
+use Rattle.of_explain.{specs.Replies.reply_row, proofs.ReplyLemmas.printed_more, proofs.ReplyLemmas.printed_all, proofs.ReplyLemmas.fewer_bytes}
 use Rattle.of_explain.proofs.replies.push_rows.Goals as goal
 
 pub loop-size-smaller : goal.loop-size-smaller

@@ -1,5 +1,4 @@
-use Rattle.std.proofs.Common.{◌≡◌, ◌++◌, length}
-use Rattle.std.specs.List.{flat_map}
+use Rattle.std.{specs.List.flat_map, proofs.Common.◌≡◌, proofs.Common.◌++◌, proofs.Common.length}
 use Rattle.of_explain.specs.Replies.{reply_row, rows_of_reply}
 use Rattle.of_explain.proofs.replies.push_rows.Given as goal
 

@@ -1,5 +1,4 @@
-use Rattle.std.proofs.Common.{◌≡◌, ◌++◌, drop}
-use Rattle.std.specs.List.{AllByRecursion}
+use Rattle.std.{specs.List.AllByRecursion, proofs.Common.◌≡◌, proofs.Common.◌++◌, proofs.Common.drop}
 use Rattle.of_text.specs.Rows.{Fits}
 use Rattle.of_explain.specs.Requests.{row_lines}
 use Rattle.of_explain.proofs.requests.push_lines.Given as goal

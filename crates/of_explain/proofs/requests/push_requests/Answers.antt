@@ -1,6 +1,5 @@
 use Rattle.std.proofs.Common.{ℕ, List, ◌++◌, ◌∙◌, ap}
-use Rattle.of_explain.specs.Requests.{request_notes}
-use Rattle.of_explain.proofs.RequestLemmas.{told_more, fewer_left, done_told}
+use Rattle.of_explain.{specs.Requests.request_notes, proofs.RequestLemmas.told_more, proofs.RequestLemmas.fewer_left, proofs.RequestLemmas.done_told}
 use Rattle.of_explain.proofs.requests.push_requests.Goals as goal
 
 pub loop-size-smaller : goal.loop-size-smaller

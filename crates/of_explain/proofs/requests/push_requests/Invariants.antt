@@ -1,5 +1,4 @@
-use Rattle.std.proofs.Common.{◌≡◌, ◌++◌, length}
-use Rattle.std.specs.List.{flat_map}
+use Rattle.std.{specs.List.flat_map, proofs.Common.◌≡◌, proofs.Common.◌++◌, proofs.Common.length}
 use Rattle.of_explain.specs.Requests.{messages_in_bytes, request_notes}
 use Rattle.of_explain.proofs.requests.push_requests.Given as goal
 

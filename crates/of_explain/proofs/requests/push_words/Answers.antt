@@ -1,7 +1,5 @@
 use Rattle.std.proofs.Common.{codes}
-use Rattle.of_explain.specs.Messages.{message_words}
-use Rattle.of_explain.specs.Requests.{said_words}
-use Rattle.of_explain.proofs.RequestLemmas.{words_behind}
+use Rattle.of_explain.{specs.Messages.message_words, specs.Requests.said_words, proofs.RequestLemmas.words_behind}
 use Rattle.of_explain.proofs.requests.push_words.Goals as goal
 
 pub returns : goal.returns

@@ -1,8 +1,6 @@
 use Rattle.std.proofs.Common.{◌++◌, ◌∙◌, ap, List, ℕ}
-use Rattle.of_replay.specs.Rows.{with_bytes}
-use Rattle.of_replay.specs.RowTexts.{row_happened}
-use Rattle.of_explain.specs.Explained.{row_notes}
-use Rattle.of_explain.proofs.ReportLemmas.{notes_told}
+use Rattle.of_replay.specs.{Rows.with_bytes, RowTexts.row_happened}
+use Rattle.of_explain.{specs.Explained.row_notes, proofs.ReportLemmas.notes_told}
 use Rattle.of_explain.proofs.rows.tell_notes.Goals as goal
 
 pub returns-clause-notes : goal.returns-clause-notes

@@ -1,8 +1,5 @@
-use Rattle.std.proofs.Common.{◌≡◌, ◌++◌, take}
-use Rattle.std.specs.Prelude.{map}
-use Rattle.std.specs.List.{flat_map}
-use Rattle.of_text.specs.Groups.{bucket_rows}
-use Rattle.of_text.specs.Views.{view_bucket}
+use Rattle.std.{specs.Prelude.map, specs.List.flat_map, proofs.Common.◌≡◌, proofs.Common.◌++◌, proofs.Common.take}
+use Rattle.of_text.specs.{Groups.bucket_rows, Views.view_bucket}
 use Rattle.of_explain.proofs.said.push_buckets.Given as goal
 
 abbrev pub invariant-loop-bucket : goal.invariant-loop-bucket

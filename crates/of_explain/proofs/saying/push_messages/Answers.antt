@@ -1,6 +1,5 @@
 use Rattle.std.proofs.Common.{ℕ, List, ◌++◌, ◌∙◌, ap}
-use Rattle.of_explain.specs.Saying.{message_lines}
-use Rattle.of_explain.proofs.RequestLemmas.{told_more, counts_more, fewer_left, rest_is}
+use Rattle.of_explain.{specs.Saying.message_lines, proofs.RequestLemmas.told_more, proofs.RequestLemmas.counts_more, proofs.RequestLemmas.fewer_left, proofs.RequestLemmas.rest_is}
 use Rattle.of_explain.proofs.saying.push_messages.Goals as goal
 
 pub loop-size-smaller : goal.loop-size-smaller

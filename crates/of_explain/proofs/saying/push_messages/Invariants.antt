@@ -1,8 +1,6 @@
-use Rattle.std.proofs.Common.{◌≡◌, ◌++◌, ◌+◌, length}
-use Rattle.std.specs.List.{flat_map}
+use Rattle.std.{specs.List.flat_map, proofs.Common.◌≡◌, proofs.Common.◌++◌, proofs.Common.◌+◌, proofs.Common.length}
 use Rattle.of_session.specs.Stream.{concat}
-use Rattle.of_explain.specs.Requests.{messages_in_bytes}
-use Rattle.of_explain.specs.Saying.{message_lines}
+use Rattle.of_explain.specs.{Requests.messages_in_bytes, Saying.message_lines}
 use Rattle.of_explain.proofs.saying.push_messages.Given as goal
 
 abbrev pub invariant-loop-size : goal.invariant-loop-size

@@ -1,8 +1,6 @@
 use Rattle.std.proofs.Common.{◌≡◌, true, false, sym, ap, ◌∙◌}
-use Rattle.of_text.specs.Lines.{before, is_passed}
-use Rattle.of_text.proofs.LineLemmas.{some_bytes, no_bytes}
-use Rattle.of_files.specs.Contents.{content_by, content_of}
-use Rattle.of_files.proofs.LineLemmas.{counted_here, passed_here, none_counted}
+use Rattle.of_text.{specs.Lines.before, specs.Lines.is_passed, proofs.LineLemmas.some_bytes, proofs.LineLemmas.no_bytes}
+use Rattle.of_files.{specs.Contents.content_by, specs.Contents.content_of, proofs.LineLemmas.counted_here, proofs.LineLemmas.passed_here, proofs.LineLemmas.none_counted}
 use Rattle.of_files.proofs.contents.content_of.Goals as goal
 
 pub returns-then-not-is_passed_over : goal.returns-then-not-is_passed_over

@@ -1,7 +1,6 @@
 use Rattle.std.proofs.Common.{◌<◌, refl, length, arith}
 use Rattle.of_text.proofs.LineLemmas.{some_bytes, no_bytes}
-use Rattle.of_files.specs.FlowLines.{flow_lines}
-use Rattle.of_files.proofs.LineLemmas.{next_number, no_more}
+use Rattle.of_files.{specs.FlowLines.flow_lines, proofs.LineLemmas.next_number, proofs.LineLemmas.no_more}
 use Rattle.of_files.proofs.flow_lines.flow_lines.Goals as goal
 
 pub loop-rest-init : goal.loop-rest-init

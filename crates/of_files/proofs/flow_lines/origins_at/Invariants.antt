@@ -1,5 +1,4 @@
-use Rattle.std.proofs.Common.{◌≡◌, take}
-use Rattle.std.specs.Prelude.{map}
+use Rattle.std.{specs.Prelude.map, proofs.Common.◌≡◌, proofs.Common.take}
 use Rattle.of_values.specs.Origins.{view_origin}
 use Rattle.of_files.specs.FlowLines.{at_line}
 use Rattle.of_files.proofs.flow_lines.origins_at.Given as goal

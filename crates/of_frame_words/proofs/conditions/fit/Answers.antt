@@ -1,6 +1,5 @@
 use Rattle.std.proofs.Common.{sym}
-use Rattle.of_frame_words.proofs.WordLemmas.{refusal_as}
-use Rattle.of_frame_words.proofs.ConditionLemmas.{all_conditions, unfit_stops}
+use Rattle.of_frame_words.proofs.{WordLemmas.refusal_as, ConditionLemmas.all_conditions, ConditionLemmas.unfit_stops}
 use Rattle.of_frame_words.proofs.conditions.fit.Goals as goal
 
 pub returns-in-None-clause-conditions : goal.returns-in-None-clause-conditions

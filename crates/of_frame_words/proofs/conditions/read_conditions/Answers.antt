@@ -1,9 +1,6 @@
-use Rattle.std.proofs.Common.{◌∙◌, ap}
-use Rattle.std.proofs.lemmas.Result.{IfOk-weaker, err_from_is_err_and}
+use Rattle.std.proofs.{Common.◌∙◌, Common.ap, lemmas.Result.IfOk-weaker, lemmas.Result.err_from_is_err_and}
 use Rattle.of_ovs_words.specs.Matches.{fields_of_settings}
-use Rattle.of_frame_words.proofs.WordLemmas.{stops_same}
-use Rattle.of_frame_words.proofs.SaidLemmas.{err_weaker}
-use Rattle.of_frame_words.proofs.ConditionLemmas.{conditions_are, conditions_stop}
+use Rattle.of_frame_words.proofs.{WordLemmas.stops_same, SaidLemmas.err_weaker, ConditionLemmas.conditions_are, ConditionLemmas.conditions_stop}
 use Rattle.of_frame_words.proofs.conditions.read_conditions.Goals as goal
 
 pub returns-in_err-add_words-clause-stopped : goal.returns-in_err-add_words-clause-stopped

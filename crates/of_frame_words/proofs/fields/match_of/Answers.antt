@@ -1,8 +1,6 @@
-use Rattle.std.proofs.Common.{◌∙◌, ap}
-use Rattle.std.specs.List.{list_all}
+use Rattle.std.{specs.List.list_all, proofs.Common.◌∙◌, proofs.Common.ap}
 use Rattle.of_oxm.specs.Prerequisites.{prerequisites_met}
-use Rattle.of_frame_words.specs.Fields.{is_kept, rises_by_number}
-use Rattle.of_frame_words.proofs.FieldLemmas.{tested_match}
+use Rattle.of_frame_words.{specs.Fields.is_kept, specs.Fields.rises_by_number, proofs.FieldLemmas.tested_match}
 use Rattle.of_frame_words.proofs.fields.match_of.Goals as goal
 
 pub new-requires : goal.new-requires

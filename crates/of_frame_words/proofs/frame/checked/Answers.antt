@@ -1,9 +1,7 @@
 use Rattle.std.proofs.Common.{ℕ, List, ◌∙◌, ap}
 use Rattle.of_layers.specs.Reading.{layers_of}
 use Rattle.of_headers.specs.FieldMap.{field_map}
-use Rattle.of_frame_words.specs.Views.{view_received}
-use Rattle.of_frame_words.proofs.WordLemmas.{refusal_as}
-use Rattle.of_frame_words.proofs.SaidLemmas.{checked_ok, checked_stop}
+use Rattle.of_frame_words.{specs.Views.view_received, proofs.WordLemmas.refusal_as, proofs.SaidLemmas.checked_ok, proofs.SaidLemmas.checked_stop}
 use Rattle.of_frame_words.proofs.frame.checked.Goals as goal
 
 pub returns-in-None-clause-read : goal.returns-in-None-clause-read

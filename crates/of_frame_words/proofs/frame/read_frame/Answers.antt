@@ -1,10 +1,7 @@
 use Rattle.std.proofs.Common.{List, ◌∙◌, ap, sym, subst}
 use Rattle.std.proofs.lemmas.Result.{IfOk-weaker, err_from_is_err_and}
 use Rattle.of_oxm.specs.declared.match_field.MatchField.{MatchField}
-use Rattle.of_frame_words.specs.Frames.{checked, received_frame}
-use Rattle.of_frame_words.specs.Refusals.{FrameStops}
-use Rattle.of_frame_words.specs.Views.{view_received}
-use Rattle.of_frame_words.proofs.WordLemmas.{stops_same}
+use Rattle.of_frame_words.{specs.Frames.checked, specs.Frames.received_frame, specs.Refusals.FrameStops, specs.Views.view_received, proofs.WordLemmas.stops_same}
 use Rattle.of_frame_words.proofs.SaidLemmas.{checked_stops, err_weaker, frame_is, frame_stops}
 use Rattle.of_frame_words.proofs.frame.read_frame.Goals as goal
 

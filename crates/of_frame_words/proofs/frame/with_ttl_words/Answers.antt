@@ -1,8 +1,6 @@
 use Rattle.std.proofs.Common.{◌∙◌}
 use Rattle.of_ovs_words.proofs.WordLemmas.{some_bytes, no_bytes}
-use Rattle.of_frame_words.specs.Views.{view_received}
-use Rattle.of_frame_words.proofs.WordLemmas.{stops_same}
-use Rattle.of_frame_words.proofs.SaidLemmas.{ttls_end, ttls_more, ttls_stop}
+use Rattle.of_frame_words.{specs.Views.view_received, proofs.WordLemmas.stops_same, proofs.SaidLemmas.ttls_end, proofs.SaidLemmas.ttls_more, proofs.SaidLemmas.ttls_stop}
 use Rattle.of_frame_words.proofs.frame.with_ttl_words.Goals as goal
 
 pub loop-rest-preserved : goal.loop-rest-preserved

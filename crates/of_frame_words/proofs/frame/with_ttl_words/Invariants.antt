@@ -1,7 +1,6 @@
 use Rattle.std.proofs.Common.{◌≡◌, length}
 use Rattle.of_ovs_words.specs.Words.{words_from}
-use Rattle.of_frame_words.specs.Frames.{IsReadable, with_ttl_words}
-use Rattle.of_frame_words.specs.Views.{view_received}
+use Rattle.of_frame_words.specs.{Frames.IsReadable, Frames.with_ttl_words, Views.view_received}
 use Rattle.of_frame_words.proofs.frame.with_ttl_words.Given as goal
 
 abbrev pub decreases-loop-rest : goal.decreases-loop-rest

@@ -1,8 +1,7 @@
 use Rattle.std.proofs.Common.{◌∙◌, ap, arith}
 use Rattle.of_layers.specs.Fields.{row_of}
 use Rattle.of_headers.specs.FieldMap.{value}
-use Rattle.of_frame_words.specs.Frames.{at_port}
-use Rattle.of_frame_words.proofs.SaidLemmas.{key_at_is}
+use Rattle.of_frame_words.{specs.Frames.at_port, proofs.SaidLemmas.key_at_is}
 use Rattle.of_frame_words.proofs.said.key_at.Goals as goal
 
 pub returns : goal.returns

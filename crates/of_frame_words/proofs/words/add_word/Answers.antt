@@ -1,8 +1,6 @@
 use Rattle.std.proofs.Common.{◌∙◌, sym, subst}
-use Rattle.of_ovs_words.specs.declared.stop.Stop.{Stop}
-use Rattle.of_ovs_words.specs.Stops.{Stops}
-use Rattle.of_frame_words.specs.Said.{word_said}
-use Rattle.of_frame_words.proofs.WordLemmas.{masked_stop, refused_stop, word_added}
+use Rattle.of_ovs_words.specs.{declared.stop.Stop.Stop, Stops.Stops}
+use Rattle.of_frame_words.{specs.Said.word_said, proofs.WordLemmas.masked_stop, proofs.WordLemmas.refused_stop, proofs.WordLemmas.word_added}
 use Rattle.of_frame_words.proofs.words.add_word.Goals as goal
 
 pub returns-then-has_mask_amiss-clause-stopped : goal.returns-then-has_mask_amiss-clause-stopped

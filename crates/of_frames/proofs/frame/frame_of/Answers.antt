@@ -1,10 +1,6 @@
-use Rattle.std.proofs.lemmas.Result.{IfOk-weaker}
-use Rattle.std.proofs.Common.{◌∙◌, ap}
+use Rattle.std.proofs.{lemmas.Result.IfOk-weaker, Common.◌∙◌, Common.ap}
 use Rattle.of_headers.specs.FieldMap.{value}
-use Rattle.of_frames.specs.Given.{or_zero}
-use Rattle.of_frames.specs.Packets.{frame_given}
-use Rattle.of_frames.proofs.FrameLemmas.{made}
-use Rattle.of_frames.proofs.KeyLemmas.{numbers_are}
+use Rattle.of_frames.{specs.Given.or_zero, specs.Packets.frame_given, proofs.FrameLemmas.made, proofs.KeyLemmas.numbers_are}
 use Rattle.of_frames.proofs.frame.frame_of.Goals as goal
 
 pub returns-clause-bytes : goal.returns-clause-bytes

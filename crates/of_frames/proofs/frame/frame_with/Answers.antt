@@ -1,10 +1,6 @@
 use Rattle.std.proofs.Common.{ap, subst}
-use Rattle.of_layers.specs.Bits.{bits}
-use Rattle.of_layers.specs.WellFormed.{AreBytes}
-use Rattle.of_frames.specs.Given.{number}
-use Rattle.of_frames.specs.Packets.{layers_given}
-use Rattle.of_frames.proofs.AddingLemmas.{from_nothing, same, whole}
-use Rattle.of_frames.proofs.FrameLemmas.{frame_is}
+use Rattle.of_layers.specs.{Bits.bits, WellFormed.AreBytes}
+use Rattle.of_frames.{specs.Given.number, specs.Packets.layers_given, proofs.AddingLemmas.from_nothing, proofs.AddingLemmas.same, proofs.AddingLemmas.whole, proofs.FrameLemmas.frame_is}
 use Rattle.of_frames.proofs.frame.frame_with.Goals as goal
 
 pub returns : goal.returns

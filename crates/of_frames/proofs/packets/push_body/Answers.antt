@@ -1,8 +1,6 @@
 use Rattle.std.proofs.lemmas.Result.{on_ok_weaker}
 use Rattle.of_layers.specs.Layers.{arp, cells_in}
-use Rattle.of_frames.specs.Given.{number}
-use Rattle.of_frames.specs.Packets.{arp_given}
-use Rattle.of_frames.proofs.AddingLemmas.{arp_packet, no_bits}
+use Rattle.of_frames.{specs.Given.number, specs.Packets.arp_given, proofs.AddingLemmas.arp_packet, proofs.AddingLemmas.no_bits}
 use Rattle.of_frames.proofs.packets.push_body.Goals as goal
 
 pub returns-in-Bare : goal.returns-in-Bare

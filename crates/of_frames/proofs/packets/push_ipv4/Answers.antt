@@ -1,9 +1,6 @@
 use Rattle.std.proofs.Common.{ℕ, ◌∙◌, ap}
 use Rattle.of_layers.specs.Layers.{carried_cells, encoded}
-use Rattle.of_frames.specs.Checksums.{carried_checksum}
-use Rattle.of_frames.specs.Given.{number}
-use Rattle.of_frames.specs.Packets.{carried_given, ipv4_given}
-use Rattle.of_frames.proofs.AddingLemmas.{same, ipv4_packet}
+use Rattle.of_frames.{specs.Checksums.carried_checksum, specs.Given.number, specs.Packets.carried_given, specs.Packets.ipv4_given, proofs.AddingLemmas.same, proofs.AddingLemmas.ipv4_packet}
 use Rattle.of_frames.proofs.packets.push_ipv4.Goals as goal
 
 pub returns : goal.returns

@@ -1,9 +1,6 @@
 use Rattle.std.proofs.Common.{ℕ, ◌∙◌, ap}
 use Rattle.of_layers.specs.Layers.{carried_cells, encoded}
-use Rattle.of_frames.specs.Checksums.{carried_checksum}
-use Rattle.of_frames.specs.Given.{number}
-use Rattle.of_frames.specs.Packets.{carried_given, ipv6_given}
-use Rattle.of_frames.proofs.AddingLemmas.{same, ipv6_packet}
+use Rattle.of_frames.{specs.Checksums.carried_checksum, specs.Given.number, specs.Packets.carried_given, specs.Packets.ipv6_given, proofs.AddingLemmas.same, proofs.AddingLemmas.ipv6_packet}
 use Rattle.of_frames.proofs.packets.push_ipv6.Goals as goal
 
 pub returns : goal.returns

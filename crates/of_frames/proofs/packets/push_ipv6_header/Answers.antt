@@ -1,10 +1,7 @@
 use Rattle.std.proofs.Common.{ℕ, ◌+◌, ◌*◌, ap, ◌∙◌}
-use Rattle.of_layers.specs.Bits.{bits}
-use Rattle.of_layers.specs.Fields.{row_of}
-use Rattle.of_layers.specs.declared.field.Field.TheVariants.{IpDscp, IpEcn, Ipv6Flabel}
-use Rattle.of_frames.specs.Given.{given_number, number}
-use Rattle.of_frames.proofs.FitLemmas.{given_small}
+use Rattle.of_layers.specs.{Bits.bits, Fields.row_of, declared.field.Field.TheVariants.IpDscp, declared.field.Field.TheVariants.IpEcn, declared.field.Field.TheVariants.Ipv6Flabel}
 use Rattle.of_frames.proofs.AddingLemmas.{add, same, last, low, four, first_bits}
+use Rattle.of_frames.{specs.Given.given_number, specs.Given.number, proofs.FitLemmas.given_small}
 use Rattle.of_frames.proofs.packets.push_ipv6_header.Goals as goal
 
 pub returns : goal.returns

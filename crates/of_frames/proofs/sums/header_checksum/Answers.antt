@@ -1,6 +1,5 @@
 use Rattle.std.proofs.Common.{◌∙◌, ap, arith}
-use Rattle.of_frames.specs.Checksums.{checksum_of}
-use Rattle.of_frames.proofs.SumLemmas.{header_sum_is}
+use Rattle.of_frames.{specs.Checksums.checksum_of, proofs.SumLemmas.header_sum_is}
 use Rattle.of_frames.proofs.sums.header_checksum.Goals as goal
 
 pub returns : goal.returns

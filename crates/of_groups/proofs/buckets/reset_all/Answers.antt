@@ -1,5 +1,4 @@
-use Rattle.std.proofs.Common.{◌∙◌}
-use Rattle.std.proofs.lemmas.List.{length-set}
+use Rattle.std.proofs.{Common.◌∙◌, lemmas.List.length-set}
 use Rattle.of_wire.proofs.Changing.{changed_more}
 use Rattle.of_groups.specs.Buckets.{fresh}
 use Rattle.of_groups.proofs.buckets.reset_all.Goals as goal

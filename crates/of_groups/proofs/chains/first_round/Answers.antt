@@ -1,8 +1,6 @@
 use Rattle.std.proofs.Common.{◌∙◌, true, refl, ap, length, ◌≤◌}
-use Rattle.std.specs.Prelude.{map}
-use Rattle.std.proofs.lemmas.List.{take_all}
-use Rattle.of_groups.specs.declared.group.Group.{Group}
-use Rattle.of_groups.proofs.RoundLemmas.{first_known}
+use Rattle.std.{specs.Prelude.map, proofs.lemmas.List.take_all}
+use Rattle.of_groups.{specs.declared.group.Group.Group, proofs.RoundLemmas.first_known}
 use Rattle.of_groups.proofs.chains.first_round.Goals as goal
 
 pub returns : goal.returns

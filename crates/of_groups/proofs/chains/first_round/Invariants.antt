@@ -1,5 +1,4 @@
-use Rattle.std.proofs.Common.{◌≡◌, true, take}
-use Rattle.std.specs.Prelude.{map}
+use Rattle.std.{specs.Prelude.map, proofs.Common.◌≡◌, proofs.Common.true, proofs.Common.take}
 use Rattle.of_groups.specs.declared.group.Group.{Group}
 use Rattle.of_groups.proofs.chains.first_round.Given as goal
 

@@ -1,9 +1,6 @@
 use Rattle.std.proofs.Common.{◌∙◌, refl, ap, length, ◌≤◌}
-use Rattle.std.specs.Prelude.{map}
-use Rattle.std.proofs.lemmas.List.{take_all}
-use Rattle.of_groups.specs.Groups.{any_named}
-use Rattle.of_groups.specs.Rounds.{known_of}
-use Rattle.of_groups.proofs.RoundLemmas.{next_known}
+use Rattle.std.{specs.Prelude.map, proofs.lemmas.List.take_all}
+use Rattle.of_groups.{specs.Groups.any_named, specs.Rounds.known_of, proofs.RoundLemmas.next_known}
 use Rattle.of_groups.proofs.chains.next_round.Goals as goal
 
 pub returns : goal.returns

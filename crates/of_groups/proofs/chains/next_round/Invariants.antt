@@ -1,7 +1,5 @@
-use Rattle.std.proofs.Common.{◌≡◌, take}
-use Rattle.std.specs.Prelude.{map}
-use Rattle.of_groups.specs.Groups.{any_named}
-use Rattle.of_groups.specs.Rounds.{known_of}
+use Rattle.std.{specs.Prelude.map, proofs.Common.◌≡◌, proofs.Common.take}
+use Rattle.of_groups.specs.{Groups.any_named, Rounds.known_of}
 use Rattle.of_groups.proofs.chains.next_round.Given as goal
 
 abbrev pub invariant-loop-group : goal.invariant-loop-group

@@ -1,7 +1,5 @@
 use Rattle.std.proofs.Common.{◌∙◌, sym, ap}
-use Rattle.of_groups.specs.Buckets.{any_sends}
-use Rattle.of_groups.specs.Groups.{any_watches}
-use Rattle.of_groups.specs.Rounds.{absent_with}
+use Rattle.of_groups.specs.{Buckets.any_sends, Groups.any_watches, Rounds.absent_with}
 use Rattle.of_groups.proofs.Soundness.{naming_sent, naming_watched, naming_long, naming_none}
 use Rattle.of_groups.proofs.checking.check_names.Goals as goal
 

@@ -1,7 +1,6 @@
 use Rattle.std.proofs.Common.{◌∙◌, sym, ap, eqb, ◌+◌, ◌%◌, ◌^◌}
 use Rattle.std.specs.Prelude.{position}
-use Rattle.of_groups.specs.declared.group.Group.{Group}
-use Rattle.of_groups.proofs.CountLemmas.{changed_place, unchanged_at}
+use Rattle.of_groups.{specs.declared.group.Group.Group, proofs.CountLemmas.changed_place, proofs.CountLemmas.unchanged_at}
 use Rattle.of_groups.proofs.counting.count_group.Goals as goal
 
 pub returns-in-None : goal.returns-in-None

@@ -1,9 +1,6 @@
 use Rattle.std.proofs.Common.{◌∙◌, sym, ap, eqb, List}
 use Rattle.std.specs.Prelude.{position}
-use Rattle.of_groups.specs.declared.bucket.Bucket.{Bucket}
-use Rattle.of_groups.specs.declared.group.Group.{Group}
-use Rattle.of_groups.specs.Buckets.{used_at}
-use Rattle.of_groups.proofs.CountLemmas.{changed_place, unchanged_at}
+use Rattle.of_groups.{specs.declared.bucket.Bucket.Bucket, specs.declared.group.Group.Group, specs.Buckets.used_at, proofs.CountLemmas.changed_place, proofs.CountLemmas.unchanged_at}
 use Rattle.of_groups.proofs.counting.count_use_of.Goals as goal
 
 pub returns-in-None : goal.returns-in-None

@@ -1,7 +1,5 @@
-use Rattle.std.proofs.Common.{◌∙◌, ap, sym, Some}
-use Rattle.std.specs.Option.{option_map}
-use Rattle.of_groups.specs.declared.bucket.Bucket.{Bucket}
-use Rattle.of_groups.proofs.WorldLemmas.{slice_at}
+use Rattle.std.{specs.Option.option_map, proofs.Common.◌∙◌, proofs.Common.ap, proofs.Common.sym, proofs.Common.Some}
+use Rattle.of_groups.{specs.declared.bucket.Bucket.Bucket, proofs.WorldLemmas.slice_at}
 use Rattle.of_groups.proofs.groups.actions_at.Goals as goal
 
 pub returns : goal.returns

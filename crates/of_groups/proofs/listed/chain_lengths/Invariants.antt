@@ -1,7 +1,5 @@
-use Rattle.std.proofs.Common.{◌≡◌, take}
-use Rattle.std.specs.Prelude.{map}
-use Rattle.of_groups.specs.declared.group.Group.{Group}
-use Rattle.of_groups.proofs.MarkLemmas.{length_at}
+use Rattle.std.{specs.Prelude.map, proofs.Common.◌≡◌, proofs.Common.take}
+use Rattle.of_groups.{specs.declared.group.Group.Group, proofs.MarkLemmas.length_at}
 use Rattle.of_groups.proofs.listed.chain_lengths.Given as goal
 
 abbrev pub invariant-loop-group : goal.invariant-loop-group

@@ -1,9 +1,5 @@
-use Rattle.std.proofs.Common.{◌∙◌, ◌≤◌, ap, length}
-use Rattle.std.specs.Prelude.{map}
-use Rattle.std.proofs.lemmas.List.{take_all}
-use Rattle.of_groups.specs.declared.group.Group.{Group}
-use Rattle.of_groups.specs.Groups.{is_there}
-use Rattle.of_groups.proofs.MarkLemmas.{first_marked}
+use Rattle.std.{specs.Prelude.map, proofs.Common.◌∙◌, proofs.Common.◌≤◌, proofs.Common.ap, proofs.Common.length, proofs.lemmas.List.take_all}
+use Rattle.of_groups.{specs.declared.group.Group.Group, specs.Groups.is_there, proofs.MarkLemmas.first_marked}
 use Rattle.of_groups.proofs.listed.first_marks.Goals as goal
 
 pub returns : goal.returns

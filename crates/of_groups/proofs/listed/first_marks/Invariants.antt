@@ -1,7 +1,5 @@
-use Rattle.std.proofs.Common.{◌≡◌, take}
-use Rattle.std.specs.Prelude.{map}
-use Rattle.of_groups.specs.declared.group.Group.{Group}
-use Rattle.of_groups.specs.Groups.{is_there}
+use Rattle.std.{specs.Prelude.map, proofs.Common.◌≡◌, proofs.Common.take}
+use Rattle.of_groups.specs.{declared.group.Group.Group, Groups.is_there}
 use Rattle.of_groups.proofs.listed.first_marks.Given as goal
 
 abbrev pub invariant-loop-group : goal.invariant-loop-group

@@ -1,11 +1,6 @@
 use Rattle.std.proofs.Common.{◌∙◌, ◌≤◌, false, ap, length}
-use Rattle.std.specs.Prelude.{map}
-use Rattle.std.specs.Option.{option_map_or}
-use Rattle.std.proofs.lemmas.List.{take_all}
-use Rattle.of_groups.specs.declared.group.Group.{Group}
-use Rattle.of_groups.specs.Groups.{find_group, any_named}
-use Rattle.of_groups.specs.Rounds.{mark_at}
-use Rattle.of_groups.proofs.MarkLemmas.{next_marked}
+use Rattle.std.{specs.Prelude.map, specs.Option.option_map_or, proofs.lemmas.List.take_all}
+use Rattle.of_groups.{specs.declared.group.Group.Group, specs.Groups.find_group, specs.Groups.any_named, specs.Rounds.mark_at, proofs.MarkLemmas.next_marked}
 use Rattle.of_groups.proofs.listed.next_marks.Goals as goal
 
 pub returns : goal.returns

@@ -1,9 +1,5 @@
-use Rattle.std.proofs.Common.{◌≡◌, false, take}
-use Rattle.std.specs.Prelude.{map}
-use Rattle.std.specs.Option.{option_map_or}
-use Rattle.of_groups.specs.declared.group.Group.{Group}
-use Rattle.of_groups.specs.Groups.{find_group, any_named}
-use Rattle.of_groups.specs.Rounds.{mark_at}
+use Rattle.std.{specs.Prelude.map, specs.Option.option_map_or, proofs.Common.◌≡◌, proofs.Common.false, proofs.Common.take}
+use Rattle.of_groups.specs.{declared.group.Group.Group, Groups.find_group, Groups.any_named, Rounds.mark_at}
 use Rattle.of_groups.proofs.listed.next_marks.Given as goal
 
 abbrev pub invariant-loop-group : goal.invariant-loop-group

@@ -1,5 +1,4 @@
-use Rattle.std.proofs.Common.{◌≡◌}
-use Rattle.std.specs.List.{range_with_len}
+use Rattle.std.{specs.List.range_with_len, proofs.Common.◌≡◌}
 use Rattle.of_groups.proofs.liveness.all_places.Given as goal
 
 abbrev pub invariant-loop-place : goal.invariant-loop-place

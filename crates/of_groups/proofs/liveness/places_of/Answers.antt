@@ -1,8 +1,5 @@
-use Rattle.std.proofs.Common.{◌∙◌, ap, List}
-use Rattle.std.specs.Prelude.{position}
-use Rattle.std.specs.Option.{option_to_list}
-use Rattle.of_groups.specs.declared.bucket.Bucket.{Bucket}
-use Rattle.of_groups.specs.Liveness.{is_live_bucket, is_live_group}
+use Rattle.std.{specs.Prelude.position, specs.Option.option_to_list, proofs.Common.◌∙◌, proofs.Common.ap, proofs.Common.List}
+use Rattle.of_groups.specs.{declared.bucket.Bucket.Bucket, Liveness.is_live_bucket, Liveness.is_live_group}
 use Rattle.of_groups.proofs.liveness.places_of.Goals as goal
 
 pub returns-in-FastFailover : goal.returns-in-FastFailover

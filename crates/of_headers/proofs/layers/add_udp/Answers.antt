@@ -1,10 +1,6 @@
 use Rattle.std.proofs.Common.{refl}
-use Rattle.of_layers.specs.declared.field.Field.TheVariants.{InPort}
-use Rattle.of_layers.specs.Fields.{row_of}
-use Rattle.of_layers.specs.Reading.{numbers_of}
-use Rattle.of_headers.specs.Presence.{all_bits}
-use Rattle.of_headers.proofs.PresenceLemmas.{fields_or}
-use Rattle.of_headers.proofs.PutLemmas.{value_put, absent_put}
+use Rattle.of_layers.specs.{declared.field.Field.TheVariants.InPort, Fields.row_of, Reading.numbers_of}
+use Rattle.of_headers.{specs.Presence.all_bits, proofs.PresenceLemmas.fields_or, proofs.PutLemmas.value_put, proofs.PutLemmas.absent_put}
 use Rattle.of_headers.proofs.layers.add_udp.Goals as goal
 
 pub invariant_of-key : goal.invariant_of-key

@@ -1,8 +1,8 @@
 use Rattle.std.proofs.Common.{◌≡◌, true, false, ◌&&◌, sym, ap, ◌∙◌}
 use Rattle.std.specs.Prelude.{◌==◌}
 use Rattle.of_layers.specs.Reading.{is_arp, is_ipv4, is_ipv6}
-use Rattle.of_headers.specs.Places.{network_of}
 use Rattle.of_headers.proofs.LayoutLemmas.{body_arp, body_ipv4, body_ipv6, body_plain, arp_network}
+use Rattle.of_headers.specs.Places.{network_of}
 use Rattle.of_headers.proofs.layout.network_in.Goals as goal
 
 pub returns-then-has_arp : goal.returns-then-has_arp

@@ -1,6 +1,5 @@
 use Rattle.std.proofs.Common.{arith, ◌≡◌, true, false}
-use Rattle.of_layers.specs.Reading.{is_tag_type, word}
-use Rattle.of_layers.proofs.TagLemmas.{tag_count_more, tag_count_none, tag_count_short}
+use Rattle.of_layers.{specs.Reading.is_tag_type, specs.Reading.word, proofs.TagLemmas.tag_count_more, proofs.TagLemmas.tag_count_none, proofs.TagLemmas.tag_count_short}
 use Rattle.of_headers.proofs.layout.tags_in.Goals as goal
 
 pub loop-at-preserved : goal.loop-at-preserved

@@ -1,14 +1,8 @@
 use Rattle.std.proofs.Common.{◌≡◌, [], ◌∷◌, sym, ap, ◌∙◌}
 use Rattle.std.specs.Option.{option_or}
-use Rattle.of_layers.specs.Fields.{number_of}
-use Rattle.of_layers.specs.Layers.{Body, cells_in, ether_type, body_cells}
-use Rattle.of_layers.specs.Looking.{look}
-use Rattle.of_headers.specs.declared.key.FieldKey.{FieldKey}
-use Rattle.of_headers.specs.FieldMap.{value}
-use Rattle.of_headers.proofs.LookLemmas.{put_two, look-append}
-use Rattle.of_layers.specs.declared.field.Field.{Field}
-use Rattle.of_layers.specs.Reading.{body_of}
+use Rattle.of_layers.specs.{Fields.number_of, Layers.Body, Layers.cells_in, Layers.ether_type, Layers.body_cells, Looking.look, declared.field.Field.Field, Reading.body_of}
 use Rattle.of_headers.proofs.KeyLemmas.{arp_at, ipv4_at, ipv6_at, put_plain, put_arp}
+use Rattle.of_headers.{specs.declared.key.FieldKey.FieldKey, specs.FieldMap.value, proofs.LookLemmas.put_two, proofs.LookLemmas.look-append}
 use Rattle.of_headers.proofs.reading.add_body.Goals.{in-Plain, in-Arp, in-Ipv4, in-Ipv6}
 use Rattle.of_headers.proofs.reading.add_body.Goals as goal
 

@@ -1,6 +1,5 @@
-use Rattle.of_headers.proofs.CarriedLemmas.{ipv4_payload, look_ipv4}
+use Rattle.of_headers.proofs.{CarriedLemmas.ipv4_payload, CarriedLemmas.look_ipv4, LookLemmas.put_two}
 use Rattle.of_layers.specs.Fields.{number_of}
-use Rattle.of_headers.proofs.LookLemmas.{put_two}
 use Rattle.of_headers.proofs.reading.add_ipv4_packet.Goals as goal
 
 pub rest_from-requires : goal.rest_from-requires

@@ -1,5 +1,4 @@
-use Rattle.of_headers.proofs.KeyLemmas.{ipv6_payload, look_ipv6}
-use Rattle.of_headers.proofs.LookLemmas.{put_two}
+use Rattle.of_headers.proofs.{KeyLemmas.ipv6_payload, KeyLemmas.look_ipv6, LookLemmas.put_two}
 use Rattle.of_headers.proofs.reading.add_ipv6_packet.Goals as goal
 
 pub rest_from-requires : goal.rest_from-requires

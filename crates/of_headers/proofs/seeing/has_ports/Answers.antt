@@ -1,6 +1,5 @@
 use Rattle.std.proofs.Common.{refl, inl}
-use Rattle.of_headers.specs.Seeing.{AreSeen}
-use Rattle.of_headers.proofs.SeenLemmas.{lacks}
+use Rattle.of_headers.{specs.Seeing.AreSeen, proofs.SeenLemmas.lacks}
 use Rattle.of_headers.proofs.seeing.has_ports.Goals as goal
 
 pub returns-then-mask-eq0 : goal.returns-then-mask-eq0

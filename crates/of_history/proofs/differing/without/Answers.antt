@@ -1,6 +1,5 @@
 use Rattle.of_text.proofs.LineLemmas.{some_bytes, no_bytes}
-use Rattle.of_history.specs.Changes.{line_without}
-use Rattle.of_history.proofs.MarkLemmas.{next_line, no_line}
+use Rattle.of_history.{specs.Changes.line_without, proofs.MarkLemmas.next_line, proofs.MarkLemmas.no_line}
 use Rattle.of_history.proofs.differing.without.Goals as goal
 
 pub loop-rest-preserved : goal.loop-rest-preserved

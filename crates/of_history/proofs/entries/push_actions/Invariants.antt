@@ -1,6 +1,4 @@
-use Rattle.std.proofs.Common.{◌≡◌, ◌++◌, drop}
-use Rattle.std.specs.Prelude.{IsTrue, false}
-use Rattle.std.specs.List.{flat_map, list_all}
+use Rattle.std.{specs.Prelude.IsTrue, specs.Prelude.false, specs.List.flat_map, specs.List.list_all, proofs.Common.◌≡◌, proofs.Common.◌++◌, proofs.Common.drop}
 use Rattle.of_actions.specs.Supported.{is_supported}
 use Rattle.of_machine.specs.declared.data.Step.TheVariants.{Act}
 use Rattle.of_history.specs.Selected.{further_step}

@@ -1,6 +1,4 @@
-use Rattle.std.proofs.Common.{◌≡◌, ◌++◌, drop}
-use Rattle.std.specs.Prelude.{IsTrue}
-use Rattle.std.specs.List.{flat_map, list_all}
+use Rattle.std.{specs.Prelude.IsTrue, specs.List.flat_map, specs.List.list_all, proofs.Common.◌≡◌, proofs.Common.◌++◌, proofs.Common.drop}
 use Rattle.of_actions.specs.InstructionLists.{is_served_body}
 use Rattle.of_history.specs.Selected.{instruction_words}
 use Rattle.of_history.proofs.entries.push_instructions.Given as goal

@@ -1,5 +1,4 @@
-use Rattle.std.proofs.Common.{◌≡◌, ◌++◌, drop}
-use Rattle.std.specs.Prelude.{IsTrue}
+use Rattle.std.{specs.Prelude.IsTrue, proofs.Common.◌≡◌, proofs.Common.◌++◌, proofs.Common.drop}
 use Rattle.of_tracing.specs.Encoded.{are_encoded}
 use Rattle.of_history.specs.Fates.{fate_lines}
 use Rattle.of_history.proofs.fate.push_fate_lines.Given as goal

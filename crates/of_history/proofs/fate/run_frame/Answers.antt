@@ -1,7 +1,6 @@
 use Rattle.std.proofs.Common.{refl}
 use Rattle.of_machine.specs.Rows.{entering}
-use Rattle.of_datapath.specs.Datapath.{world_of}
-use Rattle.of_datapath.specs.Numbers.{forwarding_of}
+use Rattle.of_datapath.specs.{Datapath.world_of, Numbers.forwarding_of}
 use Rattle.of_tracing.proofs.EncodedLemmas.{run_encoded}
 use Rattle.of_history.proofs.fate.run_frame.Goals as goal
 

@@ -1,6 +1,5 @@
 use Rattle.std.proofs.Common.{ℕ, List, ◌++◌}
-use Rattle.of_text.specs.Lines.{ended}
-use Rattle.of_text.proofs.LineLemmas.{some_bytes, no_bytes}
+use Rattle.of_text.{specs.Lines.ended, proofs.LineLemmas.some_bytes, proofs.LineLemmas.no_bytes}
 use Rattle.of_history.proofs.MarkLemmas.{next_line, no_line}
 use Rattle.of_history.proofs.marks.push_all_marked.Goals as goal
 

@@ -1,6 +1,5 @@
 use Rattle.std.proofs.Common.{arith}
-use Rattle.of_text.specs.Views.{view_bucket}
-use Rattle.of_text.proofs.MadeLemmas.{mapped_more}
+use Rattle.of_text.{specs.Views.view_bucket, proofs.MadeLemmas.mapped_more}
 use Rattle.of_import.proofs.copies.copy_buckets.Goals as goal
 
 pub loop-bucket-preserved : goal.loop-bucket-preserved

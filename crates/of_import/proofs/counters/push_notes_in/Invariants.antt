@@ -1,8 +1,5 @@
-use Rattle.std.proofs.Common.{◌≡◌, ◌++◌, take}
-use Rattle.std.specs.Prelude.{map}
-use Rattle.of_import.specs.Counters.{notes_in}
-use Rattle.of_import.specs.CounterViews.{view_notes}
-use Rattle.of_import.specs.ParsedLinesViews.{view_flow_line}
+use Rattle.std.{specs.Prelude.map, proofs.Common.◌≡◌, proofs.Common.◌++◌, proofs.Common.take}
+use Rattle.of_import.specs.{Counters.notes_in, CounterViews.view_notes, ParsedLinesViews.view_flow_line}
 use Rattle.of_import.proofs.counters.push_notes_in.Given as goal
 
 abbrev pub invariant-loop-it : goal.invariant-loop-it

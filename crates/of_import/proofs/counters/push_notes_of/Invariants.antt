@@ -1,9 +1,5 @@
-use Rattle.std.proofs.Common.{◌≡◌, ◌++◌, take, ℕ}
-use Rattle.std.specs.Prelude.{map}
-use Rattle.std.specs.List.{flat_map}
-use Rattle.of_import.specs.Counters.{notes_in}
-use Rattle.of_import.specs.CounterViews.{view_notes}
-use Rattle.of_import.specs.ParsedLinesViews.{view_flow_line}
+use Rattle.std.{specs.Prelude.map, specs.List.flat_map, proofs.Common.◌≡◌, proofs.Common.◌++◌, proofs.Common.take, proofs.Common.ℕ}
+use Rattle.of_import.specs.{Counters.notes_in, CounterViews.view_notes, ParsedLinesViews.view_flow_line}
 use Rattle.of_import.proofs.counters.push_notes_of.Given as goal
 
 abbrev pub invariant-loop-table : goal.invariant-loop-table

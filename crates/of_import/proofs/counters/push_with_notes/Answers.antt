@@ -1,9 +1,7 @@
 use Rattle.std.proofs.Common.{◌++◌, ap, List, ℕ}
 use Rattle.of_lines.specs.Lines.{lines_of}
-use Rattle.of_import.specs.Counters.{with_notes}
-use Rattle.of_import.specs.CounterViews.{notes_to_come}
+use Rattle.of_import.{specs.Counters.with_notes, specs.CounterViews.notes_to_come, proofs.CounterLemmas.noted_end, proofs.CounterLemmas.noted_step, proofs.CounterLemmas.to_come_first}
 use Rattle.of_ovs_words.proofs.WordLemmas.{some_bytes, no_bytes}
-use Rattle.of_import.proofs.CounterLemmas.{noted_end, noted_step, to_come_first}
 use Rattle.of_import.proofs.counters.push_with_notes.Goals as goal
 
 pub loop-rest-init : goal.loop-rest-init

@@ -1,7 +1,6 @@
 use Rattle.std.proofs.Common.{◌≡◌, ◌++◌, length}
 use Rattle.of_lines.specs.Lines.{lines_of}
-use Rattle.of_import.specs.Counters.{with_notes}
-use Rattle.of_import.specs.CounterViews.{notes_to_come, view_notes}
+use Rattle.of_import.specs.{Counters.with_notes, CounterViews.notes_to_come, CounterViews.view_notes}
 use Rattle.of_import.proofs.counters.push_with_notes.Given as goal
 
 abbrev pub decreases-loop-rest : goal.decreases-loop-rest

@@ -1,8 +1,7 @@
 use Rattle.std.proofs.Common.{◌∙◌, ap, ℕ, List, ◌++◌}
 use Rattle.std.specs.Prelude.{map}
 use Rattle.of_text.specs.Views.{view_flows, view_groups}
-use Rattle.of_import.specs.ParsedLinesViews.{view_flow_line, view_group_line}
-use Rattle.of_import.proofs.RowLemmas.{parsed_rows, parsed_flows, parsed_groups}
+use Rattle.of_import.{specs.ParsedLinesViews.view_flow_line, specs.ParsedLinesViews.view_group_line, proofs.RowLemmas.parsed_rows, proofs.RowLemmas.parsed_flows, proofs.RowLemmas.parsed_groups}
 use Rattle.of_import.proofs.ImportLemmas.{config_is, refused_is}
 use Rattle.of_import.proofs.import.configure_all.Goals as goal
 

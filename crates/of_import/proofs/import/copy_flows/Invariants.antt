@@ -1,5 +1,4 @@
-use Rattle.std.proofs.Common.{◌≡◌, ◌++◌, take}
-use Rattle.std.specs.Prelude.{map}
+use Rattle.std.{specs.Prelude.map, proofs.Common.◌≡◌, proofs.Common.◌++◌, proofs.Common.take}
 use Rattle.of_text.specs.Views.{view_flows}
 use Rattle.of_import.specs.declared.parsed_lines.FlowLine.{FlowLine}
 use Rattle.of_import.proofs.import.copy_flows.Given as goal

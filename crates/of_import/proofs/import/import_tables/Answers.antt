@@ -1,6 +1,5 @@
 use Rattle.of_text.specs.Lines.{lines_of}
-use Rattle.of_import.specs.KeptViews.{view_kept}
-use Rattle.of_import.proofs.ImportLemmas.{made_import, refusal_stops}
+use Rattle.of_import.{specs.KeptViews.view_kept, proofs.ImportLemmas.made_import, proofs.ImportLemmas.refusal_stops}
 use Rattle.of_import.proofs.import.import_tables.Goals as goal
 
 pub returns-in-Ok-clause-found : goal.returns-in-Ok-clause-found

@@ -1,5 +1,4 @@
-use Rattle.std.proofs.Common.{◌≡◌, ◌++◌}
-use Rattle.std.specs.Prelude.{map}
+use Rattle.std.{specs.Prelude.map, proofs.Common.◌≡◌, proofs.Common.◌++◌}
 use Rattle.of_import.proofs.import.take_groups.Given as goal
 
 abbrev pub invariant-loop-it : goal.invariant-loop-it

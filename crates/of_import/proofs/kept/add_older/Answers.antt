@@ -1,10 +1,6 @@
-use Rattle.std.proofs.Common.{◌∙◌, sym, ap, List}
-use Rattle.std.specs.List.{list_any}
+use Rattle.std.{specs.List.list_any, proofs.Common.◌∙◌, proofs.Common.sym, proofs.Common.ap, proofs.Common.List}
 use Rattle.of_text.specs.Views.{view}
-use Rattle.of_import.specs.declared.parsed_lines.FlowLine.{FlowLine}
-use Rattle.of_import.specs.Kept.{replaces}
-use Rattle.of_import.proofs.DigestLemmas.{digests_more}
-use Rattle.of_import.proofs.KeptLemmas.{older_kept, older_put}
+use Rattle.of_import.{specs.declared.parsed_lines.FlowLine.FlowLine, specs.Kept.replaces, proofs.DigestLemmas.digests_more, proofs.KeptLemmas.older_kept, proofs.KeptLemmas.older_put}
 use Rattle.of_import.proofs.kept.add_older.Goals as goal
 
 pub returns-in_ok-push-clause-added : goal.returns-in_ok-push-clause-added

@@ -1,6 +1,5 @@
 use Rattle.std.proofs.Common.{arith}
-use Rattle.of_text.specs.Views.{view_group}
-use Rattle.of_text.proofs.MadeLemmas.{mapped_more}
+use Rattle.of_text.{specs.Views.view_group, proofs.MadeLemmas.mapped_more}
 use Rattle.of_import.specs.declared.parsed_lines.GroupLine.{GroupLine}
 use Rattle.of_import.proofs.kept.copies_of.Goals as goal
 

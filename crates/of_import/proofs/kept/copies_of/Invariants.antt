@@ -1,5 +1,4 @@
-use Rattle.std.proofs.Common.{◌≡◌, ◌++◌, drop}
-use Rattle.std.specs.Prelude.{map}
+use Rattle.std.{specs.Prelude.map, proofs.Common.◌≡◌, proofs.Common.◌++◌, proofs.Common.drop}
 use Rattle.of_text.specs.Views.{view_group}
 use Rattle.of_import.specs.declared.parsed_lines.GroupLine.{GroupLine}
 use Rattle.of_import.proofs.kept.copies_of.Given as goal

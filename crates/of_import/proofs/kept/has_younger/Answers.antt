@@ -1,9 +1,7 @@
 use Rattle.std.proofs.Common.{◌∙◌, sym, ap, eqb, ℕ}
-use Rattle.std.specs.Prelude.{is_some}
-use Rattle.std.specs.List.{list_any}
+use Rattle.std.specs.{Prelude.is_some, List.list_any}
 use Rattle.of_text.specs.Views.{view}
-use Rattle.of_import.specs.Digests.{digests_of}
-use Rattle.of_import.proofs.DigestLemmas.{none_same}
+use Rattle.of_import.{specs.Digests.digests_of, proofs.DigestLemmas.none_same}
 use Rattle.of_import.proofs.kept.has_younger.Goals as goal
 
 pub returns-in-None : goal.returns-in-None

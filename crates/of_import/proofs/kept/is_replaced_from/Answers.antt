@@ -1,8 +1,6 @@
 use Rattle.std.proofs.Common.{◌∙◌, sym}
 use Rattle.of_text.specs.Views.{view}
-use Rattle.of_import.specs.declared.parsed_lines.FlowLine.{FlowLine}
-use Rattle.of_import.specs.Kept.{replaces}
-use Rattle.of_import.proofs.DigestLemmas.{any_at}
+use Rattle.of_import.{specs.declared.parsed_lines.FlowLine.FlowLine, specs.Kept.replaces, proofs.DigestLemmas.any_at}
 use Rattle.of_import.proofs.kept.is_replaced_from.Goals as goal
 
 pub returns-then-replaces_at : goal.returns-then-replaces_at

@@ -1,11 +1,7 @@
 use Rattle.std.proofs.Common.{◌≡◌, ◌∙◌, ◌∷◌, [], Some, None, sym, ap}
-use Rattle.std.specs.Prelude.{map}
-use Rattle.std.proofs.lemmas.List.{append-nil, map-append}
+use Rattle.std.{specs.Prelude.map, proofs.lemmas.List.append-nil, proofs.lemmas.List.map-append}
 use Rattle.of_text.specs.Views.{view, view_groups}
-use Rattle.of_import.specs.Kept.{refusal_alone}
-use Rattle.of_import.specs.KeptViews.{view_refusal}
-use Rattle.of_import.specs.ParsedLinesViews.{view_flow_line}
-use Rattle.of_import.proofs.KeptLemmas.{alone}
+use Rattle.of_import.{specs.Kept.refusal_alone, specs.KeptViews.view_refusal, specs.ParsedLinesViews.view_flow_line, proofs.KeptLemmas.alone}
 use Rattle.of_import.proofs.kept.judge.Goals as goal
 
 pub returns-in_ok-push-in-Some-clause-accepted : goal.returns-in_ok-push-in-Some-clause-accepted

@@ -1,12 +1,8 @@
 use Rattle.std.proofs.Common.{◌≡◌, ◌∙◌, ◌++◌, ◌∷◌, [], List, ap}
 use Rattle.std.specs.Prelude.{map}
-use Rattle.of_text.specs.First.{first_refusal}
-use Rattle.of_text.specs.Groups.{TextGroup}
-use Rattle.of_text.specs.Views.{view_groups}
-use Rattle.of_import.specs.Kept.{accepted, groups_in, refused_flows}
-use Rattle.of_import.specs.KeptViews.{view_refusal}
-use Rattle.of_import.specs.ParsedLinesViews.{view_flow_line, view_group_line}
+use Rattle.of_text.specs.{First.first_refusal, Groups.TextGroup, Views.view_groups}
 use Rattle.of_import.proofs.KeptLemmas.{copied, sifting_start, sifting_more, sifting_next, sifting_done, no_more}
+use Rattle.of_import.specs.{Kept.accepted, Kept.groups_in, Kept.refused_flows, KeptViews.view_refusal, ParsedLinesViews.view_flow_line, ParsedLinesViews.view_group_line}
 use Rattle.of_import.proofs.kept.keep_flows.Goals as goal
 
 pub loop-it-init : goal.loop-it-init

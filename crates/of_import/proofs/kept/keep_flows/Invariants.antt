@@ -1,9 +1,5 @@
-use Rattle.std.proofs.Common.{vec_len}
-use Rattle.std.specs.Prelude.{map}
-use Rattle.of_import.specs.Kept.{groups_in}
-use Rattle.of_import.specs.KeptViews.{view_refusal}
-use Rattle.of_import.specs.ParsedLinesViews.{view_flow_line, view_group_line}
-use Rattle.of_import.proofs.KeptLemmas.{Sifting}
+use Rattle.std.{specs.Prelude.map, proofs.Common.vec_len}
+use Rattle.of_import.{specs.Kept.groups_in, specs.KeptViews.view_refusal, specs.ParsedLinesViews.view_flow_line, specs.ParsedLinesViews.view_group_line, proofs.KeptLemmas.Sifting}
 use Rattle.of_import.proofs.kept.keep_flows.Given as goal
 
 abbrev pub decreases-loop-it : goal.decreases-loop-it

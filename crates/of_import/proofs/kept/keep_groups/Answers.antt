@@ -1,9 +1,7 @@
 use Rattle.std.proofs.Common.{◌≡◌, ◌∙◌, refl, sym, ap, [], ℕ, length, arith}
 use Rattle.std.specs.Prelude.{map}
 use Rattle.of_text.specs.First.{first_refusal}
-use Rattle.of_import.specs.Kept.{groups_in, kept_groups}
-use Rattle.of_import.specs.KeptViews.{view_kept_groups, view_refusal}
-use Rattle.of_import.specs.ParsedLinesViews.{view_group_line}
+use Rattle.of_import.specs.{Kept.groups_in, Kept.kept_groups, KeptViews.view_kept_groups, KeptViews.view_refusal, ParsedLinesViews.view_group_line}
 use Rattle.of_import.proofs.KeptLemmas.{all_kept, kept_stand, not_some}
 use Rattle.of_import.proofs.kept.keep_groups.Goals as goal
 

@@ -1,7 +1,5 @@
 use Rattle.std.proofs.Common.{◌≡◌, length}
-use Rattle.of_import.specs.Kept.{kept_groups}
-use Rattle.of_import.specs.KeptViews.{view_kept_groups}
-use Rattle.of_import.specs.ParsedLinesViews.{AreSoundGroups}
+use Rattle.of_import.specs.{Kept.kept_groups, KeptViews.view_kept_groups, ParsedLinesViews.AreSoundGroups}
 use Rattle.of_import.proofs.kept.keep_groups.Given as goal
 
 abbrev pub decreases-loop-left : goal.decreases-loop-left

@@ -1,10 +1,8 @@
 use Rattle.std.proofs.Common.{◌∙◌, sym, ap, subst, [], List}
 use Rattle.std.specs.Prelude.{map, slice_index_or}
-use Rattle.of_import.specs.declared.parsed_lines.GroupLine.{GroupLine}
-use Rattle.of_text.specs.First.{first_refusal}
-use Rattle.of_import.specs.Kept.{groups_in}
-use Rattle.of_import.specs.ParsedLinesViews.{AreSoundGroups, view_group_line}
+use Rattle.of_import.specs.{declared.parsed_lines.GroupLine.GroupLine, Kept.groups_in, ParsedLinesViews.AreSoundGroups, ParsedLinesViews.view_group_line}
 use Rattle.of_import.proofs.KeptLemmas.{after_some, still_sound}
+use Rattle.of_text.specs.First.{first_refusal}
 use Rattle.of_import.proofs.kept.leave_first.Goals as goal
 
 pub returns-in_ok-push-in-Some-clause-left : goal.returns-in_ok-push-in-Some-clause-left

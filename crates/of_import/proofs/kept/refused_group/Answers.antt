@@ -1,9 +1,6 @@
-use Rattle.std.proofs.Common.{◌∙◌, sym, ap, []}
-use Rattle.std.specs.Prelude.{map}
+use Rattle.std.{specs.Prelude.map, proofs.Common.◌∙◌, proofs.Common.sym, proofs.Common.ap, proofs.Common.[]}
 use Rattle.of_text.specs.Views.{view_flows, view_groups}
-use Rattle.of_import.specs.Kept.{groups_in}
-use Rattle.of_import.specs.ParsedLinesViews.{view_group_line}
-use Rattle.of_import.proofs.KeptLemmas.{group_texts, refusals_same, texts_of_lines}
+use Rattle.of_import.{specs.Kept.groups_in, specs.ParsedLinesViews.view_group_line, proofs.KeptLemmas.group_texts, proofs.KeptLemmas.refusals_same, proofs.KeptLemmas.texts_of_lines}
 use Rattle.of_import.proofs.RowLemmas.{parsed_rows}
 use Rattle.of_import.proofs.kept.refused_group.Goals as goal
 

@@ -1,9 +1,6 @@
-use Rattle.std.proofs.Common.{refl, subst, sym}
-use Rattle.std.specs.Prelude.{map}
-use Rattle.std.specs.List.{AllByRecursion}
-use Rattle.of_import.specs.ParsedLinesViews.{FlowIsSound, view_flow_line}
-use Rattle.of_import.proofs.DigestLemmas.{no_digests}
+use Rattle.std.{specs.Prelude.map, specs.List.AllByRecursion, proofs.Common.refl, proofs.Common.subst, proofs.Common.sym}
 use Rattle.of_import.proofs.KeptLemmas.{older_start, older_more, older_done, sifting_next, all_reversed, no_more}
+use Rattle.of_import.{specs.ParsedLinesViews.FlowIsSound, specs.ParsedLinesViews.view_flow_line, proofs.DigestLemmas.no_digests}
 use Rattle.of_import.proofs.kept.youngest.Goals as goal
 
 pub loop-it-init : goal.loop-it-init

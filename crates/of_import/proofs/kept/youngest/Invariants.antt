@@ -1,8 +1,5 @@
-use Rattle.std.proofs.Common.{vec_len}
-use Rattle.std.specs.Prelude.{map}
-use Rattle.of_import.specs.Digests.{digests_of, HasDigests}
-use Rattle.of_import.specs.ParsedLinesViews.{view_flow_line}
-use Rattle.of_import.proofs.KeptLemmas.{Older}
+use Rattle.std.{specs.Prelude.map, proofs.Common.vec_len}
+use Rattle.of_import.{specs.Digests.digests_of, specs.Digests.HasDigests, specs.ParsedLinesViews.view_flow_line, proofs.KeptLemmas.Older}
 use Rattle.of_import.proofs.kept.youngest.Given as goal
 
 abbrev pub decreases-loop-it : goal.decreases-loop-it

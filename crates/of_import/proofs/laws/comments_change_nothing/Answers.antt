@@ -1,5 +1,4 @@
-use Rattle.of_import.proofs.CounterLemmas.{encoded_with}
-use Rattle.of_import.proofs.NoteLemmas.{encoded_behind}
+use Rattle.of_import.proofs.{CounterLemmas.encoded_with, NoteLemmas.encoded_behind}
 use Rattle.of_import.proofs.laws.comments_change_nothing.Goals as goal
 
 pub returns-clause-before : goal.returns-clause-before

@@ -1,8 +1,5 @@
 use Rattle.std.proofs.Common.{◌∙◌, sym}
-use Rattle.of_import.specs.KeptViews.{loses_action}
-use Rattle.of_import.specs.Notes.{is_changed}
-use Rattle.of_import.specs.ParsedLinesViews.{view_flow_line}
-use Rattle.of_import.proofs.KeptLemmas.{counted_mapped}
+use Rattle.of_import.{specs.KeptViews.loses_action, specs.Notes.is_changed, specs.ParsedLinesViews.view_flow_line, proofs.KeptLemmas.counted_mapped}
 use Rattle.of_import.proofs.notes.count_changed.Goals as goal
 
 pub returns : goal.returns

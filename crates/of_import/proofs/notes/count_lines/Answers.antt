@@ -1,6 +1,4 @@
-use Rattle.std.proofs.Common.{rules, tests}
-use Rattle.std.proofs.lemmas.Iterator.{YieldsList-from_slice}
-use Rattle.std.proofs.lemmas.Iterator.Consumers.{count_from_yields_List, YieldsList-from_filter}
+use Rattle.std.proofs.{Common.rules, Common.tests, lemmas.Iterator.YieldsList-from_slice, lemmas.Iterator.Consumers.count_from_yields_List, lemmas.Iterator.Consumers.YieldsList-from_filter}
 use Rattle.of_import.specs.KeptViews.{loses_action}
 use Rattle.of_import.proofs.notes.count_lines.Goals as goal
 

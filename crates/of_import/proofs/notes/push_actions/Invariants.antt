@@ -1,6 +1,5 @@
 use Rattle.std.proofs.Common.{◌≡◌, ◌++◌, take, List, ℕ}
-use Rattle.std.specs.Prelude.{map}
-use Rattle.std.specs.List.{flat_map}
+use Rattle.std.specs.{Prelude.map, List.flat_map}
 use Rattle.of_import.specs.Notes.{comment, left_out_action_words}
 use Rattle.of_import.proofs.notes.push_actions.Given as goal
 

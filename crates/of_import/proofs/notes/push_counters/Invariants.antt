@@ -1,6 +1,5 @@
 use Rattle.std.proofs.Common.{◌≡◌, ◌++◌, ◌∷◌, take, List, ℕ}
-use Rattle.std.specs.Prelude.{map}
-use Rattle.std.specs.List.{flat_map}
+use Rattle.std.specs.{Prelude.map, List.flat_map}
 use Rattle.of_import.proofs.notes.push_counters.Given as goal
 
 abbrev pub invariant-loop-word : goal.invariant-loop-word

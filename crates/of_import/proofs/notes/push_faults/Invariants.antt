@@ -1,8 +1,5 @@
-use Rattle.std.proofs.Common.{◌≡◌, ◌++◌, take}
-use Rattle.std.specs.Prelude.{map}
-use Rattle.std.specs.List.{flat_map}
-use Rattle.of_import.specs.Notes.{comment, fault_words}
-use Rattle.of_import.specs.ParsedLinesViews.{view_faults}
+use Rattle.std.{specs.Prelude.map, specs.List.flat_map, proofs.Common.◌≡◌, proofs.Common.◌++◌, proofs.Common.take}
+use Rattle.of_import.specs.{Notes.comment, Notes.fault_words, ParsedLinesViews.view_faults}
 use Rattle.of_import.proofs.notes.push_faults.Given as goal
 
 abbrev pub invariant-loop-it : goal.invariant-loop-it

@@ -1,7 +1,5 @@
 use Rattle.std.proofs.Common.{arith}
-use Rattle.of_import.specs.Notes.{mark_notes}
-use Rattle.of_import.specs.ParsedLinesViews.{view_flow_line}
-use Rattle.of_import.proofs.NoteLemmas.{notes_more}
+use Rattle.of_import.{specs.Notes.mark_notes, specs.ParsedLinesViews.view_flow_line, proofs.NoteLemmas.notes_more}
 use Rattle.of_import.proofs.notes.push_marks.Goals as goal
 
 pub loop-it-preserved : goal.loop-it-preserved

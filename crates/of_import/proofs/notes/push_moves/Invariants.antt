@@ -1,5 +1,4 @@
-use Rattle.std.proofs.Common.{◌≡◌, ◌++◌, take, ℕ}
-use Rattle.std.specs.List.{flat_map}
+use Rattle.std.{specs.List.flat_map, proofs.Common.◌≡◌, proofs.Common.◌++◌, proofs.Common.take, proofs.Common.ℕ}
 use Rattle.of_import.specs.Notes.{comment, renumbered_table_words}
 use Rattle.of_import.proofs.notes.push_moves.Given as goal
 

@@ -1,8 +1,5 @@
-use Rattle.std.proofs.Common.{◌≡◌, ◌++◌, take}
-use Rattle.std.specs.Prelude.{map}
-use Rattle.std.specs.List.{flat_map}
-use Rattle.of_import.specs.Notes.{comment, refusal_words}
-use Rattle.of_import.specs.KeptViews.{view_refusal}
+use Rattle.std.{specs.Prelude.map, specs.List.flat_map, proofs.Common.◌≡◌, proofs.Common.◌++◌, proofs.Common.take}
+use Rattle.of_import.specs.{Notes.comment, Notes.refusal_words, KeptViews.view_refusal}
 use Rattle.of_import.proofs.notes.push_refusals.Given as goal
 
 abbrev pub invariant-loop-it : goal.invariant-loop-it

@@ -1,6 +1,4 @@
-use Rattle.std.proofs.Common.{◌≡◌, ◌++◌, take}
-use Rattle.std.specs.Prelude.{map}
-use Rattle.std.specs.List.{flat_map}
+use Rattle.std.{specs.Prelude.map, specs.List.flat_map, proofs.Common.◌≡◌, proofs.Common.◌++◌, proofs.Common.take}
 use Rattle.of_import.specs.Notes.{word_after_space}
 use Rattle.of_ovs_lines.specs.PartialFlowViews.{view_word_fault}
 use Rattle.of_import.proofs.notes.push_words.Given as goal

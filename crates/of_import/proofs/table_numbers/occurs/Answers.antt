@@ -1,8 +1,5 @@
 use Rattle.std.proofs.Common.{◌∙◌, sym}
-use Rattle.of_import.specs.ParsedLines.{FlowAt}
-use Rattle.of_import.specs.ParsedLinesViews.{view_flow_line}
-use Rattle.of_import.specs.TableNumbers.{concerns_table}
-use Rattle.of_import.proofs.ParsedLinesLemmas.{any_mapped}
+use Rattle.of_import.{specs.ParsedLines.FlowAt, specs.ParsedLinesViews.view_flow_line, specs.TableNumbers.concerns_table, proofs.ParsedLinesLemmas.any_mapped}
 use Rattle.of_import.proofs.table_numbers.occurs.Goals as goal
 
 pub returns : goal.returns

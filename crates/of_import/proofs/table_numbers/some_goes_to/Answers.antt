@@ -1,6 +1,5 @@
 use Rattle.std.proofs.Common.{◌∙◌, sym}
-use Rattle.of_text.specs.Flows.{goes_to}
-use Rattle.of_text.specs.Views.{view_instruction}
+use Rattle.of_text.specs.{Flows.goes_to, Views.view_instruction}
 use Rattle.of_import.proofs.ParsedLinesLemmas.{any_mapped}
 use Rattle.of_import.proofs.table_numbers.some_goes_to.Goals as goal
 

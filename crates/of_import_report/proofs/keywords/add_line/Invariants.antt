@@ -1,7 +1,5 @@
-use Rattle.std.proofs.Common.{◌≡◌, drop}
-use Rattle.std.specs.List.{fold}
-use Rattle.of_import_report.specs.Keywords.{with_keyword}
-use Rattle.of_import_report.specs.Views.{view_names}
+use Rattle.std.{specs.List.fold, proofs.Common.◌≡◌, proofs.Common.drop}
+use Rattle.of_import_report.specs.{Keywords.with_keyword, Views.view_names}
 use Rattle.of_import_report.proofs.keywords.add_line.Given as goal
 
 abbrev pub invariant-loop-fault : goal.invariant-loop-fault

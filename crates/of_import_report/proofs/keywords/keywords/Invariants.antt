@@ -1,7 +1,5 @@
-use Rattle.std.proofs.Common.{◌≡◌, drop}
-use Rattle.std.specs.List.{fold}
-use Rattle.of_import_report.specs.Keywords.{keywords_in, keywords_with_line}
-use Rattle.of_import_report.specs.Views.{view_names}
+use Rattle.std.{specs.List.fold, proofs.Common.◌≡◌, proofs.Common.drop}
+use Rattle.of_import_report.specs.{Keywords.keywords_in, Keywords.keywords_with_line, Views.view_names}
 use Rattle.of_import_report.proofs.keywords.keywords.Given as goal
 
 abbrev pub invariant-loop-line : goal.invariant-loop-line

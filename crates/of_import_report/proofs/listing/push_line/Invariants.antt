@@ -1,5 +1,4 @@
-use Rattle.std.proofs.Common.{◌≡◌, ◌++◌, take}
-use Rattle.std.specs.List.{flat_map}
+use Rattle.std.{specs.List.flat_map, proofs.Common.◌≡◌, proofs.Common.◌++◌, proofs.Common.take}
 use Rattle.of_import_report.specs.FaultLines.{refused_word_line}
 use Rattle.of_import_report.proofs.listing.push_line.Given as goal
 

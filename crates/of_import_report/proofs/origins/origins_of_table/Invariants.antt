@@ -1,6 +1,4 @@
-use Rattle.std.proofs.Common.{◌≡◌, ◌++◌, drop}
-use Rattle.std.specs.Prelude.{map}
-use Rattle.std.specs.List.{flat_map}
+use Rattle.std.{specs.Prelude.map, specs.List.flat_map, proofs.Common.◌≡◌, proofs.Common.◌++◌, proofs.Common.drop}
 use Rattle.of_values.specs.Origins.{view_origin}
 use Rattle.of_import_report.specs.FlowOrigins.{flow_origins_in, origin_in}
 use Rattle.of_import_report.proofs.origins.origins_of_table.Given as goal

@@ -1,8 +1,6 @@
-use Rattle.std.proofs.Common.{◌≡◌, ◌++◌, drop}
-use Rattle.std.specs.List.{flat_map}
+use Rattle.std.{specs.List.flat_map, proofs.Common.◌≡◌, proofs.Common.◌++◌, proofs.Common.drop}
 use Rattle.of_headers.specs.FieldMap.{value}
-use Rattle.of_json.specs.Changes.{value_change}
-use Rattle.of_json.specs.declared.altered.Property.TheVariants.{InField}
+use Rattle.of_json.specs.{Changes.value_change, declared.altered.Property.TheVariants.InField}
 use Rattle.of_json.proofs.altered.add_fields.Given as goal
 
 abbrev pub invariant-loop-field : goal.invariant-loop-field

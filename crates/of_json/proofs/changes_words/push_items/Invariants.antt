@@ -1,5 +1,4 @@
-use Rattle.std.proofs.Common.{◌≡◌, ◌++◌, None, length}
-use Rattle.std.specs.Option.{option_copied}
+use Rattle.std.{specs.Option.option_copied, proofs.Common.◌≡◌, proofs.Common.◌++◌, proofs.Common.None, proofs.Common.length}
 use Rattle.of_json.specs.ChangesInWords.{changed_sides}
 use Rattle.of_json.proofs.changes_words.push_items.Given as goal
 

@@ -1,6 +1,5 @@
 use Rattle.std.proofs.Common.{rules}
-use Rattle.of_json.specs.Strings.{counter_member}
-use Rattle.of_json.proofs.ListingLemmas.{listed_words}
+use Rattle.of_json.{specs.Strings.counter_member, proofs.ListingLemmas.listed_words}
 use Rattle.of_json.proofs.counters.push_counter_members.Goals as goal
 
 pub returns : goal.returns

@@ -1,6 +1,5 @@
 use Rattle.of_text.proofs.LineLemmas.{some_bytes, no_bytes}
-use Rattle.of_json.specs.Strings.{line_string}
-use Rattle.of_json.proofs.LineLemmas.{next_string, no_strings}
+use Rattle.of_json.{specs.Strings.line_string, proofs.LineLemmas.next_string, proofs.LineLemmas.no_strings}
 use Rattle.of_json.proofs.lines.push_further_lines.Goals as goal
 
 pub loop-rest-preserved : goal.loop-rest-preserved

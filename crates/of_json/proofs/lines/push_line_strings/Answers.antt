@@ -1,6 +1,5 @@
 use Rattle.of_text.proofs.LineLemmas.{some_bytes, no_bytes}
-use Rattle.of_json.specs.Strings.{line_string}
-use Rattle.of_json.proofs.LineLemmas.{none_listed, some_listed}
+use Rattle.of_json.{specs.Strings.line_string, proofs.LineLemmas.none_listed, proofs.LineLemmas.some_listed}
 use Rattle.of_json.proofs.lines.push_line_strings.Goals as goal
 
 pub returns-then-is_empty : goal.returns-then-is_empty

@@ -1,7 +1,6 @@
 use Rattle.std.proofs.Common.{◌≡◌, Ok, Err, IfOk, IfErr, subst}
 use Rattle.std.specs.Prelude.{◌⊎◌}
-use Rattle.of_laws.specs.declared.fault.ConfigFault.TheVariants.{NoMemory}
-use Rattle.of_laws.specs.Built.{Listed, config_listed, config_said}
+use Rattle.of_laws.specs.{declared.fault.ConfigFault.TheVariants.NoMemory, Built.Listed, Built.config_listed, Built.config_said}
 use Rattle.of_laws.proofs.building.build.Goals as goal
 
 pub returns-clause-given : goal.returns-clause-given

@@ -1,6 +1,5 @@
 use Rattle.std.proofs.Common.{◌≡◌, drop}
-use Rattle.of_laws.specs.Built.{listed_messages}
-use Rattle.of_laws.specs.BuiltViews.{IsSoundListed, joined_with_later}
+use Rattle.of_laws.specs.{Built.listed_messages, BuiltViews.IsSoundListed, BuiltViews.joined_with_later}
 use Rattle.of_laws.proofs.building.list_of.Given as goal
 
 abbrev pub invariant-loop-place : goal.invariant-loop-place

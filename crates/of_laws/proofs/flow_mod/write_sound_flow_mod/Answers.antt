@@ -1,7 +1,6 @@
 use Rattle.std.proofs.Common.{◌≡◌, true, arith}
 use Rattle.of_actions.specs.InstructionLists.{are_kept}
-use Rattle.of_laws.proofs.Written.{if_ok}
-use Rattle.of_laws.proofs.WrittenLarge.{flow_mod_written}
+use Rattle.of_laws.proofs.{Written.if_ok, WrittenLarge.flow_mod_written}
 use Rattle.of_laws.proofs.flow_mod.write_sound_flow_mod.Goals as goal
 
 pub returns : goal.returns

@@ -1,7 +1,5 @@
 use Rattle.std.proofs.Common.{◌≡◌, true, arith}
-use Rattle.of_laws.specs.Sound.{is_sound_group}
-use Rattle.of_laws.proofs.Written.{both, if_ok_with}
-use Rattle.of_laws.proofs.WrittenLarge.{add_written, grouped, modify_written}
+use Rattle.of_laws.{specs.Sound.is_sound_group, proofs.Written.both, proofs.Written.if_ok_with, proofs.WrittenLarge.add_written, proofs.WrittenLarge.grouped, proofs.WrittenLarge.modify_written}
 use Rattle.of_laws.proofs.group_mod.write_group_request.Goals as goal
 
 pub returns-in-Add : goal.returns-in-Add

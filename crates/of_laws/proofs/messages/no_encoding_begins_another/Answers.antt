@@ -1,5 +1,4 @@
-use Rattle.of_laws.specs.AnyMessage.{controller, told}
-use Rattle.of_laws.proofs.AnyMessage.{no_front}
+use Rattle.of_laws.{specs.AnyMessage.controller, specs.AnyMessage.told, proofs.AnyMessage.no_front}
 use Rattle.of_laws.proofs.messages.no_encoding_begins_another.Goals as goal
 
 pub returns-clause-message : goal.returns-clause-message

@@ -1,5 +1,4 @@
-use Rattle.of_laws.proofs.OneMessage.{one_message}
-use Rattle.of_laws.proofs.OneTold.{one_told}
+use Rattle.of_laws.proofs.{OneMessage.one_message, OneTold.one_told}
 use Rattle.of_laws.proofs.messages.one_message.Goals as goal
 
 pub returns-clause-message : goal.returns-clause-message

@@ -1,6 +1,5 @@
 use Rattle.std.proofs.Common.{arith}
-use Rattle.of_laws.proofs.Found.{found, other}
-use Rattle.of_laws.proofs.Only.{only, xid_is}
+use Rattle.of_laws.proofs.{Found.found, Found.other, Only.only, Only.xid_is}
 use Rattle.of_laws.proofs.messages.read_exactly.Goals as goal
 
 pub returns-clause-found : goal.returns-clause-found

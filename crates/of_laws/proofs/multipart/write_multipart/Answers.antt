@@ -1,8 +1,7 @@
 use Rattle.std.proofs.Common.{◌≡◌, true, refl, arith}
-use Rattle.of_messages.specs.declared.message.Message.TheVariants.{Multipart}
 use Rattle.of_messages.specs.declared.multipart.MultipartRequest.TheVariants.{Description, Flow, Aggregate, Table, PortStats, Group, GroupDescription, GroupFeatures, PortDescription}
-use Rattle.of_laws.specs.Sound.{is_sound}
-use Rattle.of_laws.proofs.Written.{Parts, if_ok, if_ok_with, whole_written}
+use Rattle.of_messages.specs.declared.message.Message.TheVariants.{Multipart}
+use Rattle.of_laws.{specs.Sound.is_sound, proofs.Written.Parts, proofs.Written.if_ok, proofs.Written.if_ok_with, proofs.Written.whole_written}
 use Rattle.of_laws.proofs.WrittenLarge.{aggregate_written, flow_written, group_written, port_written}
 use Rattle.of_laws.proofs.multipart.write_multipart.Goals as goal
 

@@ -1,12 +1,7 @@
 use Rattle.std.proofs.Common.{◌≡◌, ℕ, ap, ◌≤◌, ◌<◌, ◌+◌, ◌^◌, true, [], length, None, ◌∙◌, arith}
-use Rattle.of_actions.specs.Actions.{AreActions}
-use Rattle.of_actions.specs.CanonicalActions.{canonical_actions}
-use Rattle.of_messages.specs.Written.{message_header}
-use Rattle.of_messages.specs.declared.message.Message.TheVariants.{PacketOut as IsPacketOut}
-use Rattle.of_laws.specs.Grammar.{buffer_of}
-use Rattle.of_laws.specs.Canonical.{packet_data_bytes}
-use Rattle.of_laws.proofs.Written.{front_written}
-use Rattle.of_laws.proofs.WrittenLarge.{packet_out_parts, packet_out_text}
+use Rattle.of_actions.specs.{Actions.AreActions, CanonicalActions.canonical_actions}
+use Rattle.of_messages.specs.{Written.message_header, declared.message.Message.TheVariants.PacketOut as IsPacketOut}
+use Rattle.of_laws.{specs.Grammar.buffer_of, specs.Canonical.packet_data_bytes, proofs.Written.front_written, proofs.WrittenLarge.packet_out_parts, proofs.WrittenLarge.packet_out_text}
 use Rattle.of_laws.proofs.packet_out.write_packet_out.Goals as goal
 
 pub returns : goal.returns

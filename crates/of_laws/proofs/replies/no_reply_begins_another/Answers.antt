@@ -1,5 +1,4 @@
-use Rattle.of_laws.specs.AnyMessage.{reply}
-use Rattle.of_laws.proofs.AnyMessage.{no_front}
+use Rattle.of_laws.{specs.AnyMessage.reply, proofs.AnyMessage.no_front}
 use Rattle.of_laws.proofs.replies.no_reply_begins_another.Goals as goal
 
 pub returns : goal.returns

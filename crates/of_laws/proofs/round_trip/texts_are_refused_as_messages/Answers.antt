@@ -1,7 +1,4 @@
-use Rattle.of_laws.proofs.Refusing.{actions_told, match_told}
-use Rattle.of_laws.proofs.RefusingFlows.{instructions_told}
-use Rattle.of_laws.proofs.RefusingMessages.{flow_told}
-use Rattle.of_laws.proofs.RefusingGroups.{group_told}
+use Rattle.of_laws.proofs.{Refusing.actions_told, Refusing.match_told, RefusingFlows.instructions_told, RefusingMessages.flow_told, RefusingGroups.group_told}
 use Rattle.of_laws.proofs.round_trip.texts_are_refused_as_messages.Goals as goal
 
 pub returns-clause-actions : goal.returns-clause-actions

@@ -1,7 +1,5 @@
-use Rattle.std.proofs.Common.{refl, ap, arith}
-use Rattle.std.proofs.lemmas.Result.{err_from_is_err_and}
-use Rattle.of_laws.specs.Sending.{config_by, config_from}
-use Rattle.of_laws.proofs.SendingLemmas.{failed_here}
+use Rattle.std.proofs.{Common.refl, Common.ap, Common.arith, lemmas.Result.err_from_is_err_and}
+use Rattle.of_laws.{specs.Sending.config_by, specs.Sending.config_from, proofs.SendingLemmas.failed_here}
 use Rattle.of_laws.proofs.sending.config_of.Goals as goal
 
 pub loop-message-init : goal.loop-message-init

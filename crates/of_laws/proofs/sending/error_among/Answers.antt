@@ -1,6 +1,5 @@
 use Rattle.std.proofs.Common.{sym, ◌∙◌, ap, arith}
-use Rattle.of_laws.specs.Sending.{error_code_in}
-use Rattle.of_laws.proofs.SendingLemmas.{error_here}
+use Rattle.of_laws.{specs.Sending.error_code_in, proofs.SendingLemmas.error_here}
 use Rattle.of_laws.proofs.sending.error_among.Goals as goal
 
 pub returns-in-loop-effect : goal.returns-in-loop-effect

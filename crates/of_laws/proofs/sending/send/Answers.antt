@@ -1,10 +1,8 @@
-use Rattle.std.proofs.Common.{Option, sym, ◌∙◌, ap}
-use Rattle.std.specs.Option.{option_map}
+use Rattle.std.{specs.Option.option_map, proofs.Common.Option, proofs.Common.sym, proofs.Common.◌∙◌, proofs.Common.ap}
 use Rattle.smallvec.specs.SmallVec.{SmallVec}
 use Rattle.of_datapath.specs.declared.effect.Effect.{Effect}
 use Rattle.of_switch.specs.Steps.{Outcome, gives}
-use Rattle.of_laws.specs.Sending.{error_in}
-use Rattle.of_laws.proofs.SendingLemmas.{IsSent, receives, sent_is}
+use Rattle.of_laws.{specs.Sending.error_in, proofs.SendingLemmas.IsSent, proofs.SendingLemmas.receives, proofs.SendingLemmas.sent_is}
 use Rattle.of_laws.proofs.sending.send.Goals as goal
 
 sent : (c : goal.Joined-effects) → IsSent c.args.command.now c.args.switch.now c.next.new.self c.in-Some.effects.items

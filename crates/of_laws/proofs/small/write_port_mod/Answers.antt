@@ -1,6 +1,5 @@
-use Rattle.std.proofs.Common.{refl, ◌∙◌, arith}
+use Rattle.std.proofs.{Common.refl, Common.◌∙◌, Common.arith, lemmas.Bool.eqb-true}
 use Rattle.of_messages.specs.declared.message.Message.TheVariants.{PortMod as IsPortMod}
-use Rattle.std.proofs.lemmas.Bool.{eqb-true}
 use Rattle.of_laws.proofs.Written.{fields_written}
 use Rattle.of_laws.proofs.small.write_port_mod.Goals as goal
 

@@ -1,8 +1,6 @@
 use Rattle.std.proofs.Common.{refl, ◌∙◌, arith}
 use Rattle.of_messages.specs.declared.message.Message.TheVariants.{SetAsync}
-use Rattle.of_laws.specs.Cells.{canonical_cells}
-use Rattle.of_laws.specs.Written.{masks_cells}
-use Rattle.of_laws.proofs.Written.{fields_written, three}
+use Rattle.of_laws.{specs.Cells.canonical_cells, specs.Written.masks_cells, proofs.Written.fields_written, proofs.Written.three}
 use Rattle.of_laws.proofs.small.write_set_async.Goals as goal
 
 pub returns : goal.returns

@@ -1,7 +1,6 @@
 use Rattle.std.proofs.Common.{refl, ◌∙◌, arith}
 use Rattle.of_messages.specs.declared.message.Message.TheVariants.{TableMod as IsTableMod}
-use Rattle.of_laws.proofs.FoundSmall.{named}
-use Rattle.of_laws.proofs.Written.{fields_written}
+use Rattle.of_laws.proofs.{FoundSmall.named, Written.fields_written}
 use Rattle.of_laws.proofs.small.write_table_mod.Goals as goal
 
 pub returns : goal.returns

@@ -1,11 +1,6 @@
 use Rattle.std.proofs.Common.{◌≡◌, false, sym, ◌∙◌}
-use Rattle.of_laws.specs.Grammar.{Encodes}
+use Rattle.of_laws.{specs.Grammar.Encodes, specs.Sound.is_sound, proofs.Found.found, proofs.Only.only, proofs.Only.xid_is, proofs.Unencoded.not_encoded, proofs.Written.is_one_message}
 use Rattle.of_messages.specs.Messages.{xid_of}
-use Rattle.of_laws.proofs.Found.{found}
-use Rattle.of_laws.proofs.Only.{only, xid_is}
-use Rattle.of_laws.specs.Sound.{is_sound}
-use Rattle.of_laws.proofs.Unencoded.{not_encoded}
-use Rattle.of_laws.proofs.Written.{is_one_message}
 use Rattle.of_laws.proofs.writing.write_message.Goals as goal
 
 pub returns-then-not-is_sound-clause-not_encoded : goal.returns-then-not-is_sound-clause-not_encoded

@@ -1,9 +1,7 @@
 use Rattle.std.proofs.Common.{◌≡◌, ℕ, ◌+◌, ◌≤◌, true, List, ◌++◌, length, refl, ap, ◌∙◌, arith}
-use Rattle.of_messages.specs.Written.{message_header}
 use Rattle.of_messages.specs.declared.message.Message.TheVariants.{Hello, Error, EchoRequest, EchoReply, FeaturesRequest, GetConfigRequest, BarrierRequest, GetAsyncRequest}
-use Rattle.of_laws.specs.Sound.{is_sound}
-use Rattle.of_laws.proofs.WrittenLarge.{within}
-use Rattle.of_laws.proofs.Written.{Parts, if_ok, whole_written}
+use Rattle.of_messages.specs.Written.{message_header}
+use Rattle.of_laws.{specs.Sound.is_sound, proofs.WrittenLarge.within, proofs.Written.Parts, proofs.Written.if_ok, proofs.Written.whole_written}
 use Rattle.of_laws.proofs.writing.write_sound.Goals as goal
 
 pub returns-in-Hello : goal.returns-in-Hello

@@ -1,7 +1,5 @@
-use Rattle.of_messages.specs.Written.{flow_mod_bytes}
-use Rattle.of_messages.specs.declared.message.Message.TheVariants.{FlowMod as IsFlowMod}
-use Rattle.of_laws.proofs.Only.{only}
-use Rattle.of_laws.proofs.WrittenRequests.{flow_mod_encoded}
+use Rattle.of_messages.specs.{Written.flow_mod_bytes, declared.message.Message.TheVariants.FlowMod as IsFlowMod}
+use Rattle.of_laws.proofs.{Only.only, WrittenRequests.flow_mod_encoded}
 use Rattle.of_laws.proofs.written_messages.written_flow_mod_is_encoded.Goals as goal
 
 pub returns-clause-encoded : goal.returns-clause-encoded

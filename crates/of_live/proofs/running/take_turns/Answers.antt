@@ -1,5 +1,4 @@
-use Rattle.std.proofs.Common.{◌∙◌, refl, arith}
-use Rattle.std.proofs.lemmas.Result.{err_from_is_err_and}
+use Rattle.std.proofs.{Common.◌∙◌, Common.refl, Common.arith, lemmas.Result.err_from_is_err_and}
 use Rattle.of_live.proofs.Ending.{so_far_begun, so_far_more, lives_all, lives_until}
 use Rattle.of_live.proofs.running.take_turns.Goals as goal
 

@@ -1,10 +1,9 @@
 use Rattle.std.proofs.Common.{◌≡◌, ◌++◌, ◌∙◌, ap, refl, sym, List, append_assoc, [], subst}
 use Rattle.std.proofs.lemmas.List.{append-nil}
 use Rattle.of_switch.specs.declared.event.Event.{Event}
-use Rattle.of_serve.specs.Turns.{events_of_row, due}
 use Rattle.of_serve.proofs.TurnLemmas.{due_none, left_none, due_waits, left_waits, due_acts, left_acts}
-use Rattle.of_live.specs.Working.{Does}
-use Rattle.of_live.proofs.Doing.{does_none, does_more}
+use Rattle.of_serve.specs.Turns.{events_of_row, due}
+use Rattle.of_live.{specs.Working.Does, proofs.Doing.does_none, proofs.Doing.does_more}
 use Rattle.of_live.proofs.work.happen_due.Goals as goal
 
 pub loop-row-init : goal.loop-row-init

@@ -1,5 +1,4 @@
-use Rattle.std.proofs.Common.{◌≡◌, ◌++◌, take}
-use Rattle.std.specs.List.{flat_map}
+use Rattle.std.{specs.List.flat_map, proofs.Common.◌≡◌, proofs.Common.◌++◌, proofs.Common.take}
 use Rattle.of_switch.specs.Runs.{effects_in, reports_of}
 use Rattle.of_serve.specs.Turns.{answer_in}
 use Rattle.of_live.proofs.work.push_reports.Given as goal

@@ -1,7 +1,5 @@
-use Rattle.std.proofs.Common.{◌≡◌, take}
-use Rattle.std.specs.List.{flat_map}
-use Rattle.of_live.specs.Acts.{Records}
-use Rattle.of_live.specs.Turns.{sent_in}
+use Rattle.std.{specs.List.flat_map, proofs.Common.◌≡◌, proofs.Common.take}
+use Rattle.of_live.specs.{Acts.Records, Turns.sent_in}
 use Rattle.of_live.proofs.work.send_effects.Given as goal
 
 abbrev pub invariant-loop-effect : goal.invariant-loop-effect

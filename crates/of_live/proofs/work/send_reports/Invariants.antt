@@ -1,8 +1,6 @@
-use Rattle.std.proofs.Common.{◌≡◌, take}
-use Rattle.std.specs.List.{flat_map}
+use Rattle.std.{specs.List.flat_map, proofs.Common.◌≡◌, proofs.Common.take}
 use Rattle.of_switch.specs.Runs.{effects_in, reports_of}
-use Rattle.of_live.specs.Acts.{Records}
-use Rattle.of_live.specs.Turns.{sent_in}
+use Rattle.of_live.specs.{Acts.Records, Turns.sent_in}
 use Rattle.of_live.proofs.work.send_reports.Given as goal
 
 abbrev pub invariant-loop-report : goal.invariant-loop-report

@@ -1,8 +1,5 @@
-use Rattle.of_machine.proofs.Ending.{settled}
-use Rattle.of_machine.proofs.Promises.{list_few}
-use Rattle.of_machine.proofs.Weighing.{frame_steps}
 use Rattle.of_machine.proofs.Whole.{run_ends, step_lowers, lines_few, frame_fits, action_lines}
-use Rattle.of_machine.specs.Rows.{Lookup}
+use Rattle.of_machine.{specs.Rows.Lookup, proofs.Ending.settled, proofs.Promises.list_few, proofs.Weighing.frame_steps}
 use Rattle.std.proofs.Common.{◌∷◌, []}
 use Rattle.of_machine.proofs.laws.every_run_ends.Goals as goal
 

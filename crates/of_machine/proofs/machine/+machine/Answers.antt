@@ -1,16 +1,11 @@
 use Rattle.std.proofs.Common.{◌≡◌, ◌+◌, ◌++◌, ◌∷◌, [], false, rules, drop, get_or, refl, ◌∙◌, ap}
-use Rattle.std.specs.Prelude.{IsTrue}
-use Rattle.std.proofs.lemmas.List.{drop_all}
+use Rattle.std.{specs.Prelude.IsTrue, proofs.lemmas.List.drop_all}
 use Rattle.std.proofs.lemmas.Result.{IfOk-weaker, err_from_is_err_and, on_ok_weaker, on_err_weaker}
-use Rattle.of_actions.specs.declared.action.Action.TheVariants.{Output}
-use Rattle.of_actions.specs.Supported.{is_supported}
+use Rattle.of_actions.specs.{declared.action.Action.TheVariants.Output, Supported.is_supported}
 use Rattle.of_action_set.specs.Sets.{in_order}
-use Rattle.of_machine.specs.declared.data.Packet.{Packet}
-use Rattle.of_machine.specs.Sound.{IsBelow, AllBelow}
-use Rattle.of_machine.specs.Rows.{acts, task, copies}
-use Rattle.of_machine.proofs.Reaching.{stays}
 use Rattle.of_machine.proofs.Promises.{out_of_tables, all_at, below_at, bucket_at, bucket_served, bucket_below, order_below}
 use Rattle.of_machine.proofs.Moving.{outputs, rewrites, ends, runs_set, passes_by, groups, acts_at, copies_at, copy_is, left_nil}
+use Rattle.of_machine.{specs.declared.data.Packet.Packet, specs.Sound.IsBelow, specs.Sound.AllBelow, specs.Rows.acts, specs.Rows.task, specs.Rows.copies, proofs.Reaching.stays}
 use Rattle.of_machine.proofs.machine.+machine.Goals as goal
 
 pub act-returns-in_err-to_group-in-Group-clause-err : goal.act-returns-in_err-to_group-in-Group-clause-err

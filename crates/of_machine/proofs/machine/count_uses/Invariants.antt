@@ -1,5 +1,4 @@
-use Rattle.std.proofs.Common.{◌≡◌, ◌++◌, take}
-use Rattle.std.specs.Prelude.{map}
+use Rattle.std.{specs.Prelude.map, proofs.Common.◌≡◌, proofs.Common.◌++◌, proofs.Common.take}
 use Rattle.of_machine.specs.declared.data.Count.TheVariants.{Bucket}
 use Rattle.of_machine.proofs.machine.count_uses.Given as goal
 

@@ -1,11 +1,7 @@
 use Rattle.std.proofs.Common.{◌≡◌, ◌+◌, ◌++◌, ◌∙◌, [], true, drop}
-use Rattle.std.proofs.lemmas.List.{drop_all}
-use Rattle.std.proofs.lemmas.Result.{err_from_is_err_and}
-use Rattle.of_actions.specs.declared.action.Action.TheVariants.{Output}
-use Rattle.of_actions.specs.Supported.{is_supported}
-use Rattle.of_machine.specs.Rows.{acts}
-use Rattle.of_machine.proofs.Promises.{all_at}
-use Rattle.of_machine.proofs.Moving.{acts_at}
+use Rattle.std.proofs.{lemmas.List.drop_all, lemmas.Result.err_from_is_err_and}
+use Rattle.of_actions.specs.{declared.action.Action.TheVariants.Output, Supported.is_supported}
+use Rattle.of_machine.{specs.Rows.acts, proofs.Promises.all_at, proofs.Moving.acts_at}
 use Rattle.of_machine.proofs.runs.act_all_outside.Goals as goal
 
 pub act_outside-requires-clause-served : goal.act_outside-requires-clause-served

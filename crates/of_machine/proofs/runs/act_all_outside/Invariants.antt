@@ -1,6 +1,5 @@
 use Rattle.std.proofs.Common.{◌≡◌, ◌++◌, ◌∷◌, List, drop}
-use Rattle.of_machine.specs.Rows.{Work, acts, Task, task}
-use Rattle.of_machine.specs.Runs.{Moves, point}
+use Rattle.of_machine.specs.{Rows.Work, Rows.acts, Rows.Task, Rows.task, Runs.Moves, Runs.point}
 use Rattle.of_machine.proofs.runs.act_all_outside.Given as goal
 
 abbrev pub invariant-loop-action : goal.invariant-loop-action

@@ -1,5 +1,4 @@
-use Rattle.std.proofs.Common.{sym}
-use Rattle.std.proofs.lemmas.Result.{err_from_is_err_and}
+use Rattle.std.proofs.{Common.sym, lemmas.Result.err_from_is_err_and}
 use Rattle.of_machine.proofs.Promises.{flow_serves, action_is_below}
 use Rattle.of_machine.proofs.runs.act_outside.Goals as goal
 

@@ -1,8 +1,6 @@
-use Rattle.std.proofs.Common.{◌∷◌, []}
-use Rattle.std.proofs.lemmas.Result.{err_from_is_err_and}
-use Rattle.of_machine.specs.Rows.{Lookup}
-use Rattle.of_machine.proofs.Reaching.{begins, begun, whole_run, whole_front}
+use Rattle.std.proofs.{Common.◌∷◌, Common.[], lemmas.Result.err_from_is_err_and}
 use Rattle.of_machine.proofs.Whole.{is_run, items_of, counts_of, lines_of, frame_fits, run_unfolds, frame_front, frame_run}
+use Rattle.of_machine.{specs.Rows.Lookup, proofs.Reaching.begins, proofs.Reaching.begun, proofs.Reaching.whole_run, proofs.Reaching.whole_front}
 use Rattle.of_machine.proofs.Growing.{all_are_short, frame_low}
 use Rattle.of_machine.proofs.runs.run.Goals as goal
 

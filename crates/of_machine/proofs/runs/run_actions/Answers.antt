@@ -1,12 +1,7 @@
-use Rattle.std.proofs.Common.{[]}
-use Rattle.std.proofs.lemmas.List.{append-nil}
-use Rattle.std.proofs.lemmas.Result.{err_from_is_err_and}
-use Rattle.of_machine.specs.Rows.{acts}
-use Rattle.of_machine.proofs.Promises.{all_served, list_few}
+use Rattle.std.proofs.{Common.[], lemmas.List.append-nil, lemmas.Result.err_from_is_err_and}
 use Rattle.of_machine.proofs.Reaching.{begins, begun, stays, whole_run, whole_front}
-use Rattle.of_machine.proofs.Moving.{ends, left_nil}
 use Rattle.of_machine.proofs.Whole.{is_run, items_of, counts_of, lines_of, actions_fit, run_unfolds, actions_front, actions_run}
-use Rattle.of_machine.proofs.Growing.{all_are_short, actions_low}
+use Rattle.of_machine.{specs.Rows.acts, proofs.Promises.all_served, proofs.Promises.list_few, proofs.Moving.ends, proofs.Moving.left_nil, proofs.Growing.all_are_short, proofs.Growing.actions_low}
 use Rattle.of_machine.proofs.runs.run_actions.Goals as goal
 
 pub act_all_outside-requires-clause-served : goal.act_all_outside-requires-clause-served

@@ -1,7 +1,5 @@
-use Rattle.std.proofs.Common.{◌∷◌}
-use Rattle.std.proofs.lemmas.Result.{on_ok_weaker, on_err_weaker}
-use Rattle.of_machine.specs.Rows.{task}
-use Rattle.of_machine.proofs.Moving.{dispatches, fresh_is}
+use Rattle.std.proofs.{Common.◌∷◌, lemmas.Result.on_ok_weaker, lemmas.Result.on_err_weaker}
+use Rattle.of_machine.{specs.Rows.task, proofs.Moving.dispatches, proofs.Moving.fresh_is}
 use Rattle.of_machine.proofs.runs.to_tables.Goals as goal
 
 pub returns-clause-ok : goal.returns-clause-ok

@@ -1,9 +1,6 @@
-use Rattle.std.proofs.Common.{◌≡◌, ◌+◌, [], drop}
-use Rattle.std.proofs.lemmas.List.{drop_all}
-use Rattle.std.proofs.lemmas.Result.{err_from_is_err_and}
+use Rattle.std.proofs.{Common.◌≡◌, Common.◌+◌, Common.[], Common.drop, lemmas.List.drop_all, lemmas.Result.err_from_is_err_and}
 use Rattle.of_actions.specs.InstructionLists.{is_served_body, is_for}
-use Rattle.of_machine.proofs.Promises.{all_at}
-use Rattle.of_machine.proofs.Moving.{instructions_at}
+use Rattle.of_machine.proofs.{Promises.all_at, Moving.instructions_at}
 use Rattle.of_machine.proofs.tables.follow.Goals as goal
 
 pub instruct-requires-clause-served : goal.instruct-requires-clause-served

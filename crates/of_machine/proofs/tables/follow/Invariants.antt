@@ -1,6 +1,5 @@
 use Rattle.std.proofs.Common.{drop}
-use Rattle.of_machine.specs.Rows.{works}
-use Rattle.of_machine.specs.Runs.{Follows}
+use Rattle.of_machine.specs.{Rows.works, Runs.Follows}
 use Rattle.of_machine.proofs.tables.follow.Given as goal
 
 abbrev pub invariant-loop-instruction : goal.invariant-loop-instruction

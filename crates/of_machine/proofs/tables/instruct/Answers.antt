@@ -1,8 +1,6 @@
-use Rattle.std.proofs.Common.{[], ◌∙◌, refl}
-use Rattle.std.proofs.lemmas.Result.{err_from_is_err_and}
-use Rattle.of_machine.specs.Rows.{works}
-use Rattle.of_machine.proofs.Promises.{list_served, all_are_below}
+use Rattle.std.proofs.{Common.[], Common.◌∙◌, Common.refl, lemmas.Result.err_from_is_err_and}
 use Rattle.of_machine.proofs.Moving.{applies, clears, writes, marks, jumps}
+use Rattle.of_machine.{specs.Rows.works, proofs.Promises.list_served, proofs.Promises.all_are_below}
 use Rattle.of_machine.proofs.tables.instruct.Goals as goal
 
 pub act_all-requires-clause-served : goal.act_all-requires-clause-served

@@ -1,9 +1,6 @@
 use Rattle.std.proofs.Common.{◌∷◌, [], refl, sym, append_assoc}
 use Rattle.std.proofs.lemmas.Result.{on_err_weaker, IfOk-weaker}
-use Rattle.of_machine.specs.declared.tables.Then.{Then}
-use Rattle.of_machine.specs.Rows.{Lookup, works, at_entry}
-use Rattle.of_machine.specs.Runs.{Follows, then_works}
-use Rattle.of_machine.proofs.Promises.{flow_served}
+use Rattle.of_machine.{specs.declared.tables.Then.Then, specs.Rows.Lookup, specs.Rows.works, specs.Rows.at_entry, specs.Runs.Follows, specs.Runs.then_works, proofs.Promises.flow_served}
 use Rattle.of_machine.proofs.Moving.{misses, enters}
 use Rattle.of_machine.proofs.tables.look_up.Goals as goal
 

@@ -1,10 +1,5 @@
-use Rattle.std.proofs.Common.{◌∷◌, []}
-use Rattle.std.proofs.lemmas.Result.{err_from_is_err_and, on_err_weaker}
-use Rattle.of_machine.specs.Rows.{task}
-use Rattle.of_machine.specs.Runs.{point}
-use Rattle.of_machine.proofs.Promises.{all_are_below}
-use Rattle.of_machine.proofs.Reaching.{stays}
-use Rattle.of_machine.proofs.Moving.{ends}
+use Rattle.std.proofs.{Common.◌∷◌, Common.[], lemmas.Result.err_from_is_err_and, lemmas.Result.on_err_weaker}
+use Rattle.of_machine.{specs.Rows.task, specs.Runs.point, proofs.Promises.all_are_below, proofs.Reaching.stays, proofs.Moving.ends}
 use Rattle.of_machine.proofs.tables.pipeline.Goals as goal
 
 pub run_set-requires-clause-below : goal.run_set-requires-clause-below

@@ -1,6 +1,5 @@
 use Rattle.std.proofs.Common.{◌≡◌, ◌∷◌, [], ◌<◌, ◌-◌, List}
-use Rattle.of_machine.specs.Rows.{Lookup, Task, task}
-use Rattle.of_machine.specs.Runs.{Moves, point}
+use Rattle.of_machine.specs.{Rows.Lookup, Rows.Task, Rows.task, Runs.Moves, Runs.point}
 use Rattle.of_machine.proofs.tables.pipeline.Given as goal
 
 abbrev pub invariant-loop-next : goal.invariant-loop-next

@@ -1,6 +1,6 @@
 use Rattle.std.proofs.Common.{Some, sym, ◌∙◌, ap}
-use Rattle.of_mask_groups.specs.Cells.{small_vector_items}
 use Rattle.of_mask_groups.proofs.CellLemmas.{all_occupied, but_one, cells_kept, is_there, on_failure, others_occupied, room_made}
+use Rattle.of_mask_groups.specs.Cells.{small_vector_items}
 use Rattle.of_mask_groups.proofs.cells.make_room.Goals as goal
 
 pub returns-in-Some-clause-same : goal.returns-in-Some-clause-same

@@ -1,8 +1,6 @@
 use Rattle.std.proofs.Common.{List, sym, ap, subst}
 use Rattle.slab.specs.Slab.{Slab}
-use Rattle.of_mask_groups.specs.declared.entry.Entry.{Entry}
-use Rattle.of_mask_groups.specs.declared.group.Group.{Group}
-use Rattle.of_mask_groups.specs.Grouping.{AreGrouped}
+use Rattle.of_mask_groups.specs.{declared.entry.Entry.Entry, declared.group.Group.Group, Grouping.AreGrouped}
 use Rattle.of_mask_groups.proofs.Adding.{grouped_slots, vacant_result, updates_result}
 use Rattle.of_mask_groups.proofs.mask_groups.add_entry.Goals as goal
 

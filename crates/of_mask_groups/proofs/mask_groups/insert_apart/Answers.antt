@@ -1,14 +1,10 @@
 use Rattle.std.proofs.Common.{◌≡◌, true, false, Some, sym, ◌∙◌, subst}
 use Rattle.std.specs.Global.{Vec}
 use Rattle.slab.specs.Slab.{Updates}
-use Rattle.of_mask_groups.specs.declared.group.Group.{Group}
-use Rattle.of_mask_groups.specs.Cells.{key_digest}
-use Rattle.of_mask_groups.specs.Grouping.{AreGrouped, HasMore}
-use Rattle.of_mask_groups.proofs.Splitting.{split_same, grouped_left}
-use Rattle.of_mask_groups.proofs.Turning.{split_more}
-use Rattle.of_mask_groups.proofs.Adding.{looks_by, asks_by, some_more}
-use Rattle.of_mask_groups.proofs.mask_groups.insert_apart.Goals as goal
+use Rattle.of_mask_groups.{specs.declared.group.Group.Group, specs.Cells.key_digest, specs.Grouping.AreGrouped, specs.Grouping.HasMore, proofs.Splitting.split_same, proofs.Splitting.grouped_left}
+use Rattle.of_mask_groups.proofs.{Turning.split_more, Adding.looks_by, Adding.asks_by, Adding.some_more}
 use Rattle.of_mask_groups.proofs.mask_groups.insert_apart.Goals.{then-not-is_empty, else-not-is_empty}
+use Rattle.of_mask_groups.proofs.mask_groups.insert_apart.Goals as goal
 
 pub put_back-requires-clause-falling : goal.put_back-requires-clause-falling
 put_back-requires-clause-falling c = (c.take_group-group.ensures.split c.args.entries.now c.requires.grouped).falling

@@ -1,9 +1,6 @@
 use Rattle.std.proofs.Common.{Some, sym, ◌∙◌, subst}
 use Rattle.slab.specs.Slab.{Updates}
-use Rattle.of_mask_groups.specs.declared.group.Group.{Group}
-use Rattle.of_mask_groups.specs.Cells.{key_digest}
-use Rattle.of_mask_groups.specs.Grouping.{HasMore, IsSame}
-use Rattle.of_mask_groups.proofs.Adding.{asks_by}
+use Rattle.of_mask_groups.{specs.declared.group.Group.Group, specs.Cells.key_digest, specs.Grouping.HasMore, specs.Grouping.IsSame, proofs.Adding.asks_by}
 use Rattle.of_mask_groups.proofs.Placing.{more_at, same_at}
 use Rattle.of_mask_groups.proofs.mask_groups.insert_in_place.Goals as goal
 

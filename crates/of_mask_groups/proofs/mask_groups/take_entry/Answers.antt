@@ -1,7 +1,5 @@
 use Rattle.std.proofs.Common.{◌≡◌, true, false, sym, ◌∙◌}
-use Rattle.of_mask_groups.proofs.Splitting.{grouped_left}
-use Rattle.of_mask_groups.proofs.Turning.{split_less}
-use Rattle.of_mask_groups.proofs.Adding.{looks_by, asks_by}
+use Rattle.of_mask_groups.proofs.{Splitting.grouped_left, Turning.split_less, Adding.looks_by, Adding.asks_by}
 use Rattle.of_mask_groups.proofs.mask_groups.take_entry.Goals as goal
 
 pub put_back-requires-clause-falling : goal.put_back-requires-clause-falling

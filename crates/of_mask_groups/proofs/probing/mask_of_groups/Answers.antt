@@ -1,8 +1,6 @@
 use Rattle.std.proofs.Common.{List, take_all, ◌∙◌, ap}
 use Rattle.of_oxm.specs.Masks.{mask_at}
-use Rattle.of_mask_groups.specs.declared.group.Group.{Group}
-use Rattle.of_mask_groups.specs.Probed.{groups_look}
-use Rattle.of_mask_groups.proofs.Looking.{look_more}
+use Rattle.of_mask_groups.{specs.declared.group.Group.Group, specs.Probed.groups_look, proofs.Looking.look_more}
 use Rattle.of_mask_groups.proofs.probing.mask_of_groups.Goals as goal
 
 pub loop-group-init : goal.loop-group-init

@@ -1,10 +1,7 @@
 use Rattle.std.proofs.Common.{ℕ, List, take, take_all, sym, ◌∙◌, subst}
 use Rattle.of_headers.specs.FieldMap.{value}
-use Rattle.of_mask_groups.specs.declared.group.Group.{Group}
-use Rattle.of_mask_groups.specs.Covering.{IsBestOf}
-use Rattle.of_mask_groups.specs.Probed.{AreProbed, IsDone}
-use Rattle.of_mask_groups.proofs.Searching.{none_probed, one_more_group, first_probes, all_probes}
-use Rattle.of_mask_groups.proofs.Winning.{all_done, above_done}
+use Rattle.of_mask_groups.specs.{declared.group.Group.Group, Covering.IsBestOf, Probed.AreProbed, Probed.IsDone}
+use Rattle.of_mask_groups.proofs.{Searching.none_probed, Searching.one_more_group, Searching.first_probes, Searching.all_probes, Winning.all_done, Winning.above_done}
 use Rattle.of_mask_groups.proofs.probing.probe_groups.Goals as goal
 
 pub loop-group-init : goal.loop-group-init

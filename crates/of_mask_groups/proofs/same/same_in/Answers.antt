@@ -1,9 +1,5 @@
-use Rattle.std.proofs.Common.{ℕ, List, sym, subst}
-use Rattle.of_mask_groups.specs.declared.group.Group.{Group}
-use Rattle.std.specs.List.{Contains}
-use Rattle.of_mask_groups.specs.SameEntry.{IsOldestSame}
-use Rattle.of_mask_groups.proofs.Members.{at_place}
-use Rattle.of_mask_groups.proofs.SameLemmas.{same_answer, same_nowhere}
+use Rattle.std.{specs.List.Contains, proofs.Common.ℕ, proofs.Common.List, proofs.Common.sym, proofs.Common.subst}
+use Rattle.of_mask_groups.{specs.declared.group.Group.Group, specs.SameEntry.IsOldestSame, proofs.Members.at_place, proofs.SameLemmas.same_answer, proofs.SameLemmas.same_nowhere}
 use Rattle.of_mask_groups.proofs.same.same_in.Goals as goal
 
 pub returns-in-Some : goal.returns-in-Some

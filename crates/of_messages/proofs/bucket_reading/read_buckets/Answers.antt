@@ -1,7 +1,5 @@
-use Rattle.std.proofs.Common.{sym, ◌∙◌, arith}
-use Rattle.std.proofs.lemmas.Bool.{eqb-true, eqb-false}
-use Rattle.of_messages.specs.Buckets.{buckets, buckets_said}
-use Rattle.of_messages.proofs.BucketLemmas.{buckets_take, said_stops, said_done}
+use Rattle.std.proofs.{Common.sym, Common.◌∙◌, Common.arith, lemmas.Bool.eqb-true, lemmas.Bool.eqb-false}
+use Rattle.of_messages.{specs.Buckets.buckets, specs.Buckets.buckets_said, proofs.BucketLemmas.buckets_take, proofs.BucketLemmas.said_stops, proofs.BucketLemmas.said_done}
 use Rattle.of_messages.proofs.bucket_reading.read_buckets.Goals as goal
 
 pub returns-in-Err : goal.returns-in-Err

@@ -1,5 +1,4 @@
-use Rattle.of_messages.specs.Written.{features_body}
-use Rattle.of_messages.proofs.Appended.{five_or}
+use Rattle.of_messages.{specs.Written.features_body, proofs.Appended.five_or}
 use Rattle.of_messages.proofs.features.put_features.Goals as goal
 
 pub returns : goal.returns

@@ -1,6 +1,5 @@
 use Rattle.std.proofs.Common.{◌≡◌, ◌∙◌, sym, subst}
-use Rattle.of_messages.specs.Written.{IsMessage, features_reply_bytes}
-use Rattle.of_messages.proofs.Lengths.{features_reply_is, features_reply_is_message}
+use Rattle.of_messages.{specs.Written.IsMessage, specs.Written.features_reply_bytes, proofs.Lengths.features_reply_is, proofs.Lengths.features_reply_is_message}
 use Rattle.of_messages.proofs.features.write_features_reply.Goals as goal
 
 pub new-requires-2 : goal.new-requires-2

@@ -1,8 +1,6 @@
-use Rattle.std.proofs.Common.{[], ◌∷◌, ◌++◌}
-use Rattle.std.specs.Prelude.{replicate}
+use Rattle.std.{specs.Prelude.replicate, proofs.Common.[], proofs.Common.◌∷◌, proofs.Common.◌++◌}
 use Rattle.byteorder.specs.Endian.{big_bytes}
-use Rattle.of_messages.specs.Written.{command_number, flow_mod_fixed_part}
-use Rattle.of_messages.proofs.Appended.{both_halves}
+use Rattle.of_messages.{specs.Written.command_number, specs.Written.flow_mod_fixed_part, proofs.Appended.both_halves}
 use Rattle.of_messages.proofs.flow_mod_writing.put_front.Goals as goal
 
 pub returns : goal.returns

@@ -1,5 +1,4 @@
-use Rattle.std.proofs.Common.{◌≡◌, ◌++◌, true, take}
-use Rattle.std.specs.List.{list_all}
+use Rattle.std.{specs.List.list_all, proofs.Common.◌≡◌, proofs.Common.◌++◌, proofs.Common.true, proofs.Common.take}
 use Rattle.of_messages.specs.CanonicalGroups.{canonical_buckets, has_numbers}
 use Rattle.of_messages.proofs.group_mod_writing.put_buckets.Given as goal
 

@@ -1,5 +1,4 @@
-use Rattle.of_messages.specs.CanonicalGroups.{group_add_fixed_part}
-use Rattle.of_messages.proofs.Appended.{three_parts}
+use Rattle.of_messages.{specs.CanonicalGroups.group_add_fixed_part, proofs.Appended.three_parts}
 use Rattle.of_messages.proofs.group_mod_writing.put_front.Goals as goal
 
 pub returns : goal.returns

@@ -1,9 +1,6 @@
 use Rattle.std.proofs.Common.{◌≡◌, ◌+◌, ◌∙◌, ℕ, List, Ok, length, sym, subst, ap, arith}
-use Rattle.of_messages.specs.CanonicalGroups.{as_written, canonical_buckets, group_add_bytes}
-use Rattle.of_messages.specs.Messages.{message_of}
-use Rattle.of_messages.specs.declared.message.Message.TheVariants.{GroupMod as IsGroupMod}
-use Rattle.of_messages.specs.declared.group_mod.GroupMod.TheVariants.{Add}
-use Rattle.of_messages.proofs.BucketsWritten.{group_add_is}
+use Rattle.of_messages.specs.{CanonicalGroups.as_written, CanonicalGroups.canonical_buckets, CanonicalGroups.group_add_bytes, Messages.message_of}
+use Rattle.of_messages.{specs.declared.message.Message.TheVariants.GroupMod as IsGroupMod, specs.declared.group_mod.GroupMod.TheVariants.Add, proofs.BucketsWritten.group_add_is}
 use Rattle.of_messages.proofs.GroupAgain.{group_add_again}
 use Rattle.of_messages.proofs.group_mod_writing.write_group_mod.Goals as goal
 

@@ -1,6 +1,5 @@
 use Rattle.std.proofs.Common.{◌≡◌, false, rules}
-use Rattle.of_messages.specs.Hellos.{is_bitmap, no_element}
-use Rattle.of_messages.proofs.HelloLemmas.{at_start, goes_on}
+use Rattle.of_messages.{specs.Hellos.is_bitmap, specs.Hellos.no_element, proofs.HelloLemmas.at_start, proofs.HelloLemmas.goes_on}
 use Rattle.of_messages.proofs.hello.bitmap_in.Goals as goal
 
 pub loop-rest-init : goal.loop-rest-init

@@ -1,6 +1,5 @@
 use Rattle.std.proofs.Common.{rules}
-use Rattle.of_messages.specs.Written.{port_bits}
-use Rattle.of_messages.proofs.Appended.{three_parts}
+use Rattle.of_messages.{specs.Written.port_bits, proofs.Appended.three_parts}
 use Rattle.of_messages.proofs.port_status.put_bits.Goals as goal
 
 pub returns : goal.returns

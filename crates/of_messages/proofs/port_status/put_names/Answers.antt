@@ -1,6 +1,5 @@
 use Rattle.std.proofs.Common.{rules}
-use Rattle.of_messages.specs.Written.{port_names}
-use Rattle.of_messages.proofs.Appended.{five_or}
+use Rattle.of_messages.{specs.Written.port_names, proofs.Appended.five_or}
 use Rattle.of_messages.proofs.port_status.put_names.Goals as goal
 
 pub returns-clause-text : goal.returns-clause-text

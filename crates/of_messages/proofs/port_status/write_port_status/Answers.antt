@@ -1,6 +1,5 @@
 use Rattle.std.proofs.Common.{◌≡◌, ◌∙◌, sym, subst, rules}
-use Rattle.of_messages.specs.Written.{port_status_bytes, IsMessage}
-use Rattle.of_messages.proofs.PortLemmas.{port_status_is, port_status_is_message}
+use Rattle.of_messages.{specs.Written.port_status_bytes, specs.Written.IsMessage, proofs.PortLemmas.port_status_is, proofs.PortLemmas.port_status_is_message}
 use Rattle.of_messages.proofs.port_status.write_port_status.Goals as goal
 
 pub new-requires-2 : goal.new-requires-2

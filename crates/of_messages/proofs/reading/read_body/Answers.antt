@@ -1,6 +1,5 @@
 use Rattle.std.proofs.Common.{rules, tests}
-use Rattle.of_messages.specs.Heads.{type_of}
-use Rattle.of_messages.proofs.OtherTypes.{IsNone, types, no_body}
+use Rattle.of_messages.{specs.Heads.type_of, proofs.OtherTypes.IsNone, proofs.OtherTypes.types, proofs.OtherTypes.no_body}
 use Rattle.of_messages.proofs.reading.read_body.Goals as goal
 
 pub returns-in_default-clause-reads : goal.returns-in_default-clause-reads

@@ -1,6 +1,5 @@
 -- The parts are written in the order of the definition.
-use Rattle.of_messages.specs.Written.{flow_removed_fixed_part}
-use Rattle.of_messages.proofs.Appended.{nine_parts}
+use Rattle.of_messages.{specs.Written.flow_removed_fixed_part, proofs.Appended.nine_parts}
 use Rattle.of_messages.proofs.writing.put_flow_removed.Goals as goal
 
 pub returns : goal.returns

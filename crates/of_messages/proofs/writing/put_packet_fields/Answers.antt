@@ -1,6 +1,5 @@
 use Rattle.std.proofs.Common.{refl}
-use Rattle.of_messages.proofs.Appended.{three_parts, four_parts}
-use Rattle.of_messages.proofs.PacketFields.{with_metadata, without_metadata, not_zero}
+use Rattle.of_messages.proofs.{Appended.three_parts, Appended.four_parts, PacketFields.with_metadata, PacketFields.without_metadata, PacketFields.not_zero}
 use Rattle.of_messages.proofs.writing.put_packet_fields.Goals as goal
 
 pub returns-in_ok-put_u32 : goal.returns-in_ok-put_u32

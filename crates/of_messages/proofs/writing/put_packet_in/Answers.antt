@@ -1,5 +1,4 @@
-use Rattle.of_messages.specs.Written.{packet_in_fixed_part}
-use Rattle.of_messages.proofs.Appended.{four_parts}
+use Rattle.of_messages.{specs.Written.packet_in_fixed_part, proofs.Appended.four_parts}
 use Rattle.of_messages.proofs.writing.put_packet_in.Goals as goal
 
 pub returns : goal.returns

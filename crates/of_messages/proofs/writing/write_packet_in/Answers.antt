@@ -1,8 +1,6 @@
 use Rattle.std.proofs.Common.{◌≡◌, ◌∙◌, length, arith, sym, subst}
 use Rattle.of_oxm.specs.Canonical.{canonical}
-use Rattle.of_messages.specs.Written.{packet_fields, packet_in_bytes, IsMessage}
-use Rattle.of_messages.proofs.Appended.{packet_in_is}
-use Rattle.of_messages.proofs.Lengths.{packet_in_is_message}
+use Rattle.of_messages.{specs.Written.packet_fields, specs.Written.packet_in_bytes, specs.Written.IsMessage, proofs.Appended.packet_in_is, proofs.Lengths.packet_in_is_message}
 use Rattle.of_messages.proofs.writing.write_packet_in.Goals as goal
 
 pub new-requires-2 : goal.new-requires-2

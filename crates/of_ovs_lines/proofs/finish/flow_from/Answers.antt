@@ -1,5 +1,4 @@
-use Rattle.of_ovs_lines.specs.PartialFlowViews.{view_partial_flow}
-use Rattle.of_ovs_lines.proofs.SoundLemmas.{flow_made, flow_sound}
+use Rattle.of_ovs_lines.{specs.PartialFlowViews.view_partial_flow, proofs.SoundLemmas.flow_made, proofs.SoundLemmas.flow_sound}
 use Rattle.of_ovs_lines.proofs.finish.flow_from.Goals as goal
 
 pub returns-clause-sound : goal.returns-clause-sound

@@ -1,8 +1,7 @@
 use Rattle.std.proofs.Common.{◌∙◌, sym}
-use Rattle.of_ovs_lines.specs.PartialGroups.{with_group_word}
-use Rattle.of_ovs_lines.specs.PartialGroupViews.{view_partial_group}
-use Rattle.of_ovs_words.proofs.WordLemmas.{some_bytes, no_bytes}
+use Rattle.of_ovs_lines.specs.{PartialGroups.with_group_word, PartialGroupViews.view_partial_group}
 use Rattle.of_ovs_lines.proofs.LineLemmas.{words_at_end, words_passed, words_more}
+use Rattle.of_ovs_words.proofs.WordLemmas.{some_bytes, no_bytes}
 use Rattle.of_ovs_lines.proofs.line.add_group_words.Goals as goal
 
 pub loop-rest-preserved-in-Ok : goal.loop-rest-preserved-in-Ok

@@ -1,8 +1,6 @@
 use Rattle.std.proofs.Common.{◌≡◌, length}
 use Rattle.of_ovs_words.specs.Words.{words_from}
-use Rattle.of_ovs_lines.specs.LineContents.{with_words}
-use Rattle.of_ovs_lines.specs.PartialGroups.{with_group_word}
-use Rattle.of_ovs_lines.specs.PartialGroupViews.{view_partial_group}
+use Rattle.of_ovs_lines.specs.{LineContents.with_words, PartialGroups.with_group_word, PartialGroupViews.view_partial_group}
 use Rattle.of_ovs_lines.proofs.line.add_group_words.Given as goal
 
 abbrev pub decreases-loop-rest : goal.decreases-loop-rest

@@ -1,8 +1,6 @@
 use Rattle.std.proofs.Common.{◌∙◌, sym}
-use Rattle.of_ovs_lines.specs.LineContents.{with_later_word}
-use Rattle.of_ovs_lines.specs.PartialFlowViews.{view_partial_flow}
+use Rattle.of_ovs_lines.{specs.LineContents.with_later_word, specs.PartialFlowViews.view_partial_flow, proofs.LineLemmas.words_at_end, proofs.LineLemmas.words_passed, proofs.LineLemmas.words_more}
 use Rattle.of_ovs_words.proofs.WordLemmas.{some_bytes, no_bytes}
-use Rattle.of_ovs_lines.proofs.LineLemmas.{words_at_end, words_passed, words_more}
 use Rattle.of_ovs_lines.proofs.line.add_later_words.Goals as goal
 
 pub loop-rest-preserved-in-Ok : goal.loop-rest-preserved-in-Ok

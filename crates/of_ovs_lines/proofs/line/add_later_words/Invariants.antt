@@ -1,7 +1,6 @@
 use Rattle.std.proofs.Common.{◌≡◌, length}
 use Rattle.of_ovs_words.specs.Words.{words_from}
-use Rattle.of_ovs_lines.specs.LineContents.{with_later_word, with_words}
-use Rattle.of_ovs_lines.specs.PartialFlowViews.{view_partial_flow}
+use Rattle.of_ovs_lines.specs.{LineContents.with_later_word, LineContents.with_words, PartialFlowViews.view_partial_flow}
 use Rattle.of_ovs_lines.proofs.line.add_later_words.Given as goal
 
 abbrev pub decreases-loop-rest : goal.decreases-loop-rest

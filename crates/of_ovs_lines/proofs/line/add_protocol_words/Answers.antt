@@ -1,8 +1,7 @@
 use Rattle.std.proofs.Common.{◌∙◌, sym}
-use Rattle.of_ovs_lines.specs.LineContents.{with_word_of_protocol}
-use Rattle.of_ovs_lines.specs.PartialFlowViews.{view_partial_flow}
-use Rattle.of_ovs_words.proofs.WordLemmas.{some_bytes, no_bytes}
+use Rattle.of_ovs_lines.specs.{LineContents.with_word_of_protocol, PartialFlowViews.view_partial_flow}
 use Rattle.of_ovs_lines.proofs.LineLemmas.{before_ends, before_more, none_before}
+use Rattle.of_ovs_words.proofs.WordLemmas.{some_bytes, no_bytes}
 use Rattle.of_ovs_lines.proofs.line.add_protocol_words.Goals as goal
 
 pub returns-then-begins_actions : goal.returns-then-begins_actions

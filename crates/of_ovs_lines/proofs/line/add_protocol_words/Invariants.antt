@@ -1,8 +1,6 @@
-use Rattle.std.proofs.Common.{◌≡◌, length}
-use Rattle.std.specs.List.{fold}
+use Rattle.std.{specs.List.fold, proofs.Common.◌≡◌, proofs.Common.length}
 use Rattle.of_ovs_words.specs.Words.{words_from}
-use Rattle.of_ovs_lines.specs.LineContents.{with_word_of_protocol, words_before_actions}
-use Rattle.of_ovs_lines.specs.PartialFlowViews.{view_partial_flow}
+use Rattle.of_ovs_lines.specs.{LineContents.with_word_of_protocol, LineContents.words_before_actions, PartialFlowViews.view_partial_flow}
 use Rattle.of_ovs_lines.proofs.line.add_protocol_words.Given as goal
 
 abbrev pub decreases-loop-rest : goal.decreases-loop-rest

@@ -1,7 +1,6 @@
 use Rattle.std.proofs.Common.{◌∙◌, sym}
 use Rattle.of_text.specs.Views.{view_bucket}
-use Rattle.of_ovs_lines.specs.PartialGroups.{bucket_fits}
-use Rattle.of_ovs_lines.proofs.SoundLemmas.{mapped_tests}
+use Rattle.of_ovs_lines.{specs.PartialGroups.bucket_fits, proofs.SoundLemmas.mapped_tests}
 use Rattle.of_ovs_lines.proofs.partial_group.buckets_fit.Goals as goal
 
 pub returns : goal.returns

@@ -1,8 +1,6 @@
-use Rattle.std.proofs.Common.{◌++◌}
-use Rattle.std.specs.Prelude.{codes}
+use Rattle.std.{specs.Prelude.codes, proofs.Common.◌++◌}
 use Rattle.of_values.specs.Numbers.{hexadecimal}
-use Rattle.of_ovs_text.specs.Actions.{metadata_in_words}
-use Rattle.of_ovs_text.proofs.PushLemmas.{behind, ends}
+use Rattle.of_ovs_text.{specs.Actions.metadata_in_words, proofs.PushLemmas.behind, proofs.PushLemmas.ends}
 use Rattle.of_ovs_text.proofs.actions.push_metadata.Goals as goal
 
 pub returns : goal.returns

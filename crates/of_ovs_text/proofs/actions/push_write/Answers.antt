@@ -1,7 +1,5 @@
-use Rattle.std.proofs.Common.{◌++◌}
-use Rattle.std.specs.Prelude.{codes}
-use Rattle.of_ovs_text.specs.Actions.{actions_in_words_of, write_in_words}
-use Rattle.of_ovs_text.proofs.PushLemmas.{behind, ends, last_part}
+use Rattle.std.{specs.Prelude.codes, proofs.Common.◌++◌}
+use Rattle.of_ovs_text.{specs.Actions.actions_in_words_of, specs.Actions.write_in_words, proofs.PushLemmas.behind, proofs.PushLemmas.ends, proofs.PushLemmas.last_part}
 use Rattle.of_ovs_text.proofs.actions.push_write.Goals as goal
 
 pub returns : goal.returns

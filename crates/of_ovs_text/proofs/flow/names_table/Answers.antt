@@ -1,6 +1,5 @@
-use Rattle.of_ovs_text.specs.MessageFlows.{has_table_word}
+use Rattle.of_ovs_text.{specs.MessageFlows.has_table_word, proofs.WordLemmas.no_table, proofs.WordLemmas.table_here, proofs.WordLemmas.table_later}
 use Rattle.of_ovs_words.proofs.WordLemmas.{no_bytes, some_bytes}
-use Rattle.of_ovs_text.proofs.WordLemmas.{no_table, table_here, table_later}
 use Rattle.std.proofs.Common.{◌∙◌, sym}
 use Rattle.of_ovs_text.proofs.flow.names_table.Goals as goal
 

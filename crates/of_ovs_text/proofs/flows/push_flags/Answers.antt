@@ -1,7 +1,5 @@
-use Rattle.std.proofs.Common.{◌++◌}
-use Rattle.std.specs.Prelude.{codes}
-use Rattle.of_ovs_text.specs.Flows.{flag_part, flags_part}
-use Rattle.of_ovs_text.proofs.PushLemmas.{behind, ends}
+use Rattle.std.{specs.Prelude.codes, proofs.Common.◌++◌}
+use Rattle.of_ovs_text.{specs.Flows.flag_part, specs.Flows.flags_part, proofs.PushLemmas.behind, proofs.PushLemmas.ends}
 use Rattle.of_ovs_text.proofs.flows.push_flags.Goals as goal
 
 pub returns : goal.returns

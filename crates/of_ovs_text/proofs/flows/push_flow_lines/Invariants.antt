@@ -1,5 +1,4 @@
-use Rattle.std.proofs.Common.{◌≡◌, ◌++◌, drop, map}
-use Rattle.std.specs.List.{flat_map}
+use Rattle.std.{specs.List.flat_map, proofs.Common.◌≡◌, proofs.Common.◌++◌, proofs.Common.drop, proofs.Common.map}
 use Rattle.of_text.specs.Views.{view}
 use Rattle.of_ovs_text.specs.Flows.{flow_line}
 use Rattle.of_ovs_text.proofs.flows.push_flow_lines.Given as goal

@@ -1,7 +1,5 @@
-use Rattle.std.proofs.Common.{◌++◌}
-use Rattle.std.specs.Prelude.{codes, decimal}
-use Rattle.of_ovs_text.specs.Parts.{number_part, unless_default}
-use Rattle.of_ovs_text.specs.Flows.{cookie_part, flags_part, flow_head_words}
+use Rattle.std.{specs.Prelude.codes, specs.Prelude.decimal, proofs.Common.◌++◌}
+use Rattle.of_ovs_text.specs.{Parts.number_part, Parts.unless_default, Flows.cookie_part, Flows.flags_part, Flows.flow_head_words}
 use Rattle.of_ovs_text.proofs.PushLemmas.{behind, ends}
 use Rattle.of_ovs_text.proofs.flows.push_head.Goals as goal
 

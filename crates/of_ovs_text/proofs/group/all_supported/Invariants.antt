@@ -1,5 +1,4 @@
-use Rattle.std.proofs.Common.{◌≡◌, drop, false}
-use Rattle.std.specs.List.{list_all}
+use Rattle.std.{specs.List.list_all, proofs.Common.◌≡◌, proofs.Common.drop, proofs.Common.false}
 use Rattle.of_actions.specs.Supported.{are_supported}
 use Rattle.of_text.specs.declared.group.BucketText.{BucketText}
 use Rattle.of_ovs_text.proofs.group.all_supported.Given as goal

@@ -1,5 +1,4 @@
-use Rattle.std.proofs.Common.{◌≡◌, ◌++◌, drop, map}
-use Rattle.std.specs.List.{flat_map}
+use Rattle.std.{specs.List.flat_map, proofs.Common.◌≡◌, proofs.Common.◌++◌, proofs.Common.drop, proofs.Common.map}
 use Rattle.of_text.specs.Views.{view_bucket}
 use Rattle.of_ovs_text.specs.Groups.{bucket_in_words}
 use Rattle.of_ovs_text.proofs.groups.push_bucket_words.Given as goal

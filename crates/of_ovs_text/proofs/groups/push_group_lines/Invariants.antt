@@ -1,5 +1,4 @@
-use Rattle.std.proofs.Common.{◌≡◌, ◌++◌, drop, map}
-use Rattle.std.specs.List.{flat_map}
+use Rattle.std.{specs.List.flat_map, proofs.Common.◌≡◌, proofs.Common.◌++◌, proofs.Common.drop, proofs.Common.map}
 use Rattle.of_text.specs.Views.{view_group}
 use Rattle.of_ovs_text.specs.Groups.{group_line}
 use Rattle.of_ovs_text.proofs.groups.push_group_lines.Given as goal

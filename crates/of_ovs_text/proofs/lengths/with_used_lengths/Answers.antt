@@ -1,8 +1,6 @@
 use Rattle.std.specs.List.{flat_map}
-use Rattle.of_text.specs.Lines.{lines_of}
-use Rattle.of_text.proofs.LineLemmas.{some_bytes, no_bytes}
-use Rattle.of_ovs_text.specs.Lengths.{line_with_used_length, with_used_lengths}
-use Rattle.of_ovs_text.proofs.PushLemmas.{no_line, one_line}
+use Rattle.of_text.{specs.Lines.lines_of, proofs.LineLemmas.some_bytes, proofs.LineLemmas.no_bytes}
+use Rattle.of_ovs_text.{specs.Lengths.line_with_used_length, specs.Lengths.with_used_lengths, proofs.PushLemmas.no_line, proofs.PushLemmas.one_line}
 use Rattle.of_ovs_text.proofs.lengths.with_used_lengths.Goals as goal
 
 pub loop-rest-preserved : goal.loop-rest-preserved

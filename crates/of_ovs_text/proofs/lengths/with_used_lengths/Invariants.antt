@@ -1,5 +1,4 @@
-use Rattle.std.proofs.Common.{◌≡◌, ◌++◌, length}
-use Rattle.std.specs.List.{flat_map}
+use Rattle.std.{specs.List.flat_map, proofs.Common.◌≡◌, proofs.Common.◌++◌, proofs.Common.length}
 use Rattle.of_text.specs.Lines.{lines_of}
 use Rattle.of_ovs_text.specs.Lengths.{line_with_used_length}
 use Rattle.of_ovs_text.proofs.lengths.with_used_lengths.Given as goal

@@ -1,8 +1,7 @@
 use Rattle.std.proofs.Common.{◌∙◌, sym}
 use Rattle.of_ovs_words.proofs.WordLemmas.{no_bytes, some_bytes}
 use Rattle.of_ovs_lines.proofs.LineLemmas.{words_at_end, words_more, words_passed}
-use Rattle.of_ovs_text.specs.PacketOuts.{with_packet_word}
-use Rattle.of_ovs_text.specs.PacketViews.{view_packet_words}
+use Rattle.of_ovs_text.specs.{PacketOuts.with_packet_word, PacketViews.view_packet_words}
 use Rattle.of_ovs_text.proofs.packet_out.words_of.Goals as goal
 
 pub loop-rest-preserved-in-Ok : goal.loop-rest-preserved-in-Ok

@@ -1,8 +1,7 @@
 use Rattle.std.proofs.Common.{◌≡◌, length}
 use Rattle.of_ovs_words.specs.Words.{words_from}
 use Rattle.of_ovs_lines.specs.LineContents.{with_words}
-use Rattle.of_ovs_text.specs.PacketOuts.{packet_out_words, with_packet_word}
-use Rattle.of_ovs_text.specs.PacketViews.{view_packet_words}
+use Rattle.of_ovs_text.specs.{PacketOuts.packet_out_words, PacketOuts.with_packet_word, PacketViews.view_packet_words}
 use Rattle.of_ovs_text.proofs.packet_out.words_of.Given as goal
 
 abbrev pub decreases-loop-rest : goal.decreases-loop-rest

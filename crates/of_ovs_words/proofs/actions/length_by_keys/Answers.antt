@@ -1,6 +1,6 @@
 use Rattle.std.proofs.Common.{◌∙◌, sym}
-use Rattle.of_ovs_words.specs.Actions.{with_key}
 use Rattle.of_ovs_words.proofs.WordLemmas.{some_bytes, no_bytes, through_at_end, through_passed, through_more, through_refused}
+use Rattle.of_ovs_words.specs.Actions.{with_key}
 use Rattle.of_ovs_words.proofs.actions.length_by_keys.Goals as goal
 
 pub loop-rest-preserved-in-Ok : goal.loop-rest-preserved-in-Ok

@@ -1,7 +1,5 @@
 use Rattle.std.proofs.Common.{◌≡◌, length}
-use Rattle.of_ovs_words.specs.Words.{words_from}
-use Rattle.of_ovs_words.specs.Outcomes.{through_words}
-use Rattle.of_ovs_words.specs.Actions.{with_key}
+use Rattle.of_ovs_words.specs.{Words.words_from, Outcomes.through_words, Actions.with_key}
 use Rattle.of_ovs_words.proofs.actions.length_by_keys.Given as goal
 
 abbrev pub decreases-loop-rest : goal.decreases-loop-rest

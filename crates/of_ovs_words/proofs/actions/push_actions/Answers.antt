@@ -1,8 +1,7 @@
 use Rattle.std.proofs.Common.{◌∙◌, sym, Bool, false, List, ℕ, Ok}
 use Rattle.of_actions.specs.declared.action.Action.{Action}
-use Rattle.of_ovs_words.specs.Words.{words_from}
-use Rattle.of_ovs_words.specs.Actions.{with_action_in_word, with_action_words}
 use Rattle.of_ovs_words.proofs.WordLemmas.{some_bytes, no_bytes, through_ends, through_passed, through_more, through_stop, stops_same, stops_on, then_ok}
+use Rattle.of_ovs_words.specs.{Words.words_from, Actions.with_action_in_word, Actions.with_action_words}
 use Rattle.of_ovs_words.proofs.actions.push_actions.Goals as goal
 
 pub loop-rest-preserved-in-Ok : goal.loop-rest-preserved-in-Ok

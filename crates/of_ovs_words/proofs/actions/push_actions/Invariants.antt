@@ -1,6 +1,5 @@
 use Rattle.std.proofs.Common.{◌≡◌, length, false}
-use Rattle.of_ovs_words.specs.Words.{words_from}
-use Rattle.of_ovs_words.specs.Actions.{with_action_words}
+use Rattle.of_ovs_words.specs.{Words.words_from, Actions.with_action_words}
 use Rattle.of_ovs_words.proofs.actions.push_actions.Given as goal
 
 abbrev pub decreases-loop-rest : goal.decreases-loop-rest

@@ -1,6 +1,5 @@
 use Rattle.std.proofs.Common.{◌≡◌, ◌∙◌, ◌<◌, ◌+◌, sym, ap, length, arith}
-use Rattle.of_ovs_words.specs.Ipv6.{pieces, group_count}
-use Rattle.of_ovs_words.proofs.WordLemmas.{some_bytes, no_bytes}
+use Rattle.of_ovs_words.{specs.Ipv6.pieces, specs.Ipv6.group_count, proofs.WordLemmas.some_bytes, proofs.WordLemmas.no_bytes}
 use Rattle.of_ovs_words.proofs.PieceLemmas.{count_more, count_same, count_end}
 use Rattle.of_ovs_words.proofs.ipv6.count_groups.Goals as goal
 

@@ -1,7 +1,6 @@
 use Rattle.std.proofs.Common.{◌∙◌, ◌<◌, sym, ap, length, cond, Bool, List, ℕ}
 use Rattle.std.specs.Prelude.{None, Some}
-use Rattle.of_ovs_words.specs.Ipv6.{pieces, with_groups}
-use Rattle.of_ovs_words.proofs.WordLemmas.{some_bytes, no_bytes}
+use Rattle.of_ovs_words.{specs.Ipv6.pieces, specs.Ipv6.with_groups, proofs.WordLemmas.some_bytes, proofs.WordLemmas.no_bytes}
 use Rattle.of_ovs_words.proofs.PieceLemmas.{groups_more, groups_stop, groups_end}
 use Rattle.of_ovs_words.proofs.ipv6.with_groups.Goals as goal
 

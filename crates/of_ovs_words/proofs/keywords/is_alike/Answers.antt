@@ -1,6 +1,5 @@
 use Rattle.std.proofs.Common.{length, ◌-◌, arith}
-use Rattle.of_ovs_words.proofs.WordLemmas.{some_bytes}
-use Rattle.of_ovs_words.proofs.KeywordLemmas.{alike_test}
+use Rattle.of_ovs_words.proofs.{WordLemmas.some_bytes, KeywordLemmas.alike_test}
 use Rattle.of_ovs_words.proofs.keywords.is_alike.Goals as goal
 
 pub returns-then-is_alike_at : goal.returns-then-is_alike_at

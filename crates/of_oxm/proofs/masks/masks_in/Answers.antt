@@ -1,6 +1,5 @@
 use Rattle.of_headers.specs.FieldMap.{value}
-use Rattle.of_oxm.specs.Relations.{bits_looked_at}
-use Rattle.of_oxm.proofs.Seen.{one_more}
+use Rattle.of_oxm.{specs.Relations.bits_looked_at, proofs.Seen.one_more}
 use Rattle.of_oxm.proofs.masks.masks_in.Goals as goal
 
 pub loop-e-preserved : goal.loop-e-preserved

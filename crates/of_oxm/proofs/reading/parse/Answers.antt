@@ -1,7 +1,6 @@
 use Rattle.std.proofs.Common.{ℕ, ◌-◌, take, drop, ◌∙◌, ap, sym, arith}
 use Rattle.std.proofs.lemmas.Result.{err_from_is_err_and}
-use Rattle.of_oxm.specs.Prerequisites.{prerequisites_met}
-use Rattle.of_oxm.proofs.Whole.{field_refused, need_refused, whole_encoded, is_match}
+use Rattle.of_oxm.{specs.Prerequisites.prerequisites_met, proofs.Whole.field_refused, proofs.Whole.need_refused, proofs.Whole.whole_encoded, proofs.Whole.is_match}
 use Rattle.of_oxm.proofs.Computed.{head_computed, fault_computed, need_computed, found_computed}
 use Rattle.of_oxm.proofs.reading.parse.Goals as goal
 

@@ -1,5 +1,4 @@
-use Rattle.of_oxm.proofs.Related.{matched_overlap}
-use Rattle.of_oxm.proofs.Joined.{overlap_common}
+use Rattle.of_oxm.proofs.{Related.matched_overlap, Joined.overlap_common}
 use Rattle.of_oxm.proofs.relations.overlap_is_common_match.Goals as goal
 
 pub returns-clause-common : goal.returns-clause-common

@@ -1,11 +1,7 @@
 use Rattle.std.proofs.Common.{ap, sym, subst, refl, ◌∙◌, ℕ, List, [], ◌∷◌, ◌++◌, length, arith}
-use Rattle.std.proofs.lemmas.List.{length-append}
-use Rattle.std.specs.List.{AllByRecursion}
-use Rattle.of_oxm.specs.declared.match_field.MatchField.{MatchField}
-use Rattle.of_oxm.specs.MatchFieldWire.{IsEncoded}
-use Rattle.of_oxm.specs.MatchGrammar.{encodings}
-use Rattle.of_oxm.specs.NormalForm.{IsMatch}
+use Rattle.std.{specs.List.AllByRecursion, proofs.lemmas.List.length-append}
 use Rattle.of_oxm.proofs.Written.{all_encoded, written_fits, is_canonical, canonical_short, canonical_encodes}
+use Rattle.of_oxm.specs.{declared.match_field.MatchField.MatchField, MatchFieldWire.IsEncoded, MatchGrammar.encodings, NormalForm.IsMatch}
 use Rattle.of_oxm.proofs.writing.put_match.Goals as goal
 
 pub put_fields-requires : goal.put_fields-requires

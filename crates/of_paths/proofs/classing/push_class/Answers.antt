@@ -1,9 +1,7 @@
 use Rattle.std.proofs.Common.{◌∙◌, List, [], ◌∷◌, ◌++◌, refl, ap}
-use Rattle.of_datapath.specs.Datapath.{world_of}
-use Rattle.of_datapath.specs.Numbers.{forwarding_of}
+use Rattle.of_datapath.specs.{Datapath.world_of, Numbers.forwarding_of}
 use Rattle.of_symbolic_run.proofs.ReceivedLemmas.{is_received}
-use Rattle.of_paths.specs.declared.path.Path.{Path}
-use Rattle.of_paths.proofs.FoundLemmas.{puts_class}
+use Rattle.of_paths.{specs.declared.path.Path.Path, proofs.FoundLemmas.puts_class}
 use Rattle.of_paths.proofs.classing.push_class.Goals as goal
 
 pub returns : goal.returns

@@ -1,8 +1,5 @@
-use Rattle.of_datapath.specs.Datapath.{world_of}
-use Rattle.of_datapath.specs.Numbers.{forwarding_of}
-use Rattle.of_symbolic_run.specs.declared.finding.FrameFound.TheVariants.{Empty, Undecided}
-use Rattle.of_symbolic_run.specs.FrameSets.{FindsFrame}
-use Rattle.of_symbolic_run.proofs.GroupedLemmas.{if_ok}
+use Rattle.of_datapath.specs.{Datapath.world_of, Numbers.forwarding_of}
+use Rattle.of_symbolic_run.{specs.declared.finding.FrameFound.TheVariants.Empty, specs.declared.finding.FrameFound.TheVariants.Undecided, specs.FrameSets.FindsFrame, proofs.GroupedLemmas.if_ok}
 use Rattle.of_paths.proofs.FoundLemmas.{puts_nothing, puts_unfound}
 use Rattle.of_paths.proofs.classing.put_alone.Goals as goal
 

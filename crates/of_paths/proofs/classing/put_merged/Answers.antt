@@ -1,10 +1,7 @@
 use Rattle.std.proofs.Common.{refl}
-use Rattle.of_datapath.specs.Datapath.{world_of}
-use Rattle.of_datapath.specs.Numbers.{forwarding_of}
+use Rattle.of_datapath.specs.{Datapath.world_of, Numbers.forwarding_of}
 use Rattle.of_symbolic_run.proofs.GroupedLemmas.{if_ok}
-use Rattle.of_paths.specs.declared.path.Merging.TheVariants.{SameWay}
-use Rattle.of_paths.proofs.FoundLemmas.{puts_joined}
-use Rattle.of_paths.proofs.WayLemmas.{is_at_place, is_inside}
+use Rattle.of_paths.{specs.declared.path.Merging.TheVariants.SameWay, proofs.FoundLemmas.puts_joined, proofs.WayLemmas.is_at_place, proofs.WayLemmas.is_inside}
 use Rattle.of_paths.proofs.classing.put_merged.Goals as goal
 
 pub returns-in_ok-push-in-Some : goal.returns-in_ok-push-in-Some

@@ -1,11 +1,7 @@
 use Rattle.std.proofs.Common.{◌≡◌, ◌∙◌, Bool, false, sym, true, refl}
-use Rattle.std.specs.Prelude.{not}
-use Rattle.std.specs.List.{list_any}
-use Rattle.of_datapath.specs.Datapath.{world_of}
-use Rattle.of_datapath.specs.Numbers.{forwarding_of}
-use Rattle.of_symbolic_run.proofs.ReceivedLemmas.{fewer_received}
-use Rattle.of_symbolic_run.specs.FrameSets.{is_about_metadata}
-use Rattle.of_symbolic_run.proofs.MetadataLemmas.{same_conditions}
+use Rattle.std.specs.{Prelude.not, List.list_any}
+use Rattle.of_datapath.specs.{Datapath.world_of, Numbers.forwarding_of}
+use Rattle.of_symbolic_run.{specs.FrameSets.is_about_metadata, proofs.ReceivedLemmas.fewer_received, proofs.MetadataLemmas.same_conditions}
 use Rattle.of_paths.proofs.dividing.first_case.Goals as goal
 use Rattle.of_paths.proofs.dividing.first_case.Goals.{then-pops_tags, else-pops_tags}
 

@@ -1,10 +1,7 @@
 use Rattle.std.proofs.Common.{ℕ, List, length}
 use Rattle.of_oxm.specs.declared.match_field.MatchField.{MatchField}
 use Rattle.of_machine.specs.TheWorld.{TheWorld}
-use Rattle.of_paths.specs.declared.path.Merging.{Merging}
-use Rattle.of_paths.specs.Reasons.{AreLeftAfter}
-use Rattle.of_paths.specs.SoFar.{ArePathsSoFar}
-use Rattle.of_paths.proofs.SoFarLemmas.{AreLeaving}
+use Rattle.of_paths.{specs.declared.path.Merging.Merging, specs.Reasons.AreLeftAfter, specs.SoFar.ArePathsSoFar, proofs.SoFarLemmas.AreLeaving}
 use Rattle.of_paths.proofs.dividing.leave_undecided.Given as goal
 
 abbrev pub invariant-loop-case : goal.invariant-loop-case

@@ -1,11 +1,7 @@
 use Rattle.std.proofs.Common.{◌≡◌, ℕ, subst}
-use Rattle.of_datapath.specs.Datapath.{world_of}
-use Rattle.of_datapath.specs.Numbers.{forwarding_of}
-use Rattle.of_paths.specs.Reasons.{AreLeftAfter}
-use Rattle.of_paths.specs.SoFar.{IsNextOf}
-use Rattle.of_paths.specs.declared.stepping.Next.TheVariants.{Ended}
+use Rattle.of_datapath.specs.{Datapath.world_of, Numbers.forwarding_of}
 use Rattle.of_paths.proofs.SoFarLemmas.{ended_received, ends, first_of_none, no_length, running_begins, running_more}
-use Rattle.of_paths.proofs.TakenLemmas.{all_taken, at_most}
+use Rattle.of_paths.{specs.Reasons.AreLeftAfter, specs.SoFar.IsNextOf, specs.declared.stepping.Next.TheVariants.Ended, proofs.TakenLemmas.all_taken, proofs.TakenLemmas.at_most}
 use Rattle.of_paths.proofs.dividing.paths.Goals as goal
 
 pub loop-left-init : goal.loop-left-init

@@ -1,5 +1,4 @@
-use Rattle.of_datapath.specs.Datapath.{world_of}
-use Rattle.of_datapath.specs.Numbers.{forwarding_of}
+use Rattle.of_datapath.specs.{Datapath.world_of, Numbers.forwarding_of}
 use Rattle.of_paths.proofs.SoFarLemmas.{IsRunning}
 use Rattle.of_paths.proofs.dividing.paths.Given as goal
 

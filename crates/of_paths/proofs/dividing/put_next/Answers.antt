@@ -1,10 +1,8 @@
 use Rattle.std.proofs.Common.{refl, subst, sym}
-use Rattle.of_datapath.specs.Datapath.{world_of}
-use Rattle.of_datapath.specs.Numbers.{forwarding_of}
+use Rattle.of_datapath.specs.{Datapath.world_of, Numbers.forwarding_of}
 use Rattle.of_symbolic_run.proofs.GroupedLemmas.{if_ok}
-use Rattle.of_paths.specs.Reasons.{IsReason}
 use Rattle.of_paths.proofs.SoFarLemmas.{always_ok, last_is_undecided, on_appended, put_cases, put_ended, put_undecided, reversed_cases}
-use Rattle.of_paths.proofs.TakenLemmas.{step_ended, step_taken, step_unknown}
+use Rattle.of_paths.{specs.Reasons.IsReason, proofs.TakenLemmas.step_ended, proofs.TakenLemmas.step_taken, proofs.TakenLemmas.step_unknown}
 use Rattle.of_paths.proofs.dividing.put_next.Goals as goal
 
 pub returns-in-Cases-clause-taken : goal.returns-in-Cases-clause-taken

@@ -1,8 +1,6 @@
 use Rattle.std.proofs.Common.{List, ap, subst, sym, take, ℕ, ◌∙◌}
-use Rattle.of_datapath.specs.Datapath.{world_of}
-use Rattle.of_datapath.specs.Numbers.{forwarding_of}
-use Rattle.of_paths.specs.EachPort.{ArePathsOfPorts, receiving_numbers}
-use Rattle.of_paths.proofs.PortLemmas.{all_numbers, numbers_more}
+use Rattle.of_datapath.specs.{Datapath.world_of, Numbers.forwarding_of}
+use Rattle.of_paths.{specs.EachPort.ArePathsOfPorts, specs.EachPort.receiving_numbers, proofs.PortLemmas.all_numbers, proofs.PortLemmas.numbers_more}
 use Rattle.of_paths.proofs.each_port.paths_of_each_port.Goals as goal
 
 pub loop-port-preserved : goal.loop-port-preserved

@@ -1,6 +1,5 @@
 use Rattle.std.proofs.Common.{take}
-use Rattle.of_datapath.specs.Datapath.{world_of}
-use Rattle.of_datapath.specs.Numbers.{forwarding_of}
+use Rattle.of_datapath.specs.{Datapath.world_of, Numbers.forwarding_of}
 use Rattle.of_paths.specs.EachPort.{ArePathsOfPorts, receiving_numbers}
 use Rattle.of_paths.proofs.each_port.paths_of_each_port.Given as goal
 

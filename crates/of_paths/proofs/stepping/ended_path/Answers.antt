@@ -1,6 +1,5 @@
 use Rattle.std.proofs.Common.{refl}
-use Rattle.of_datapath.specs.Datapath.{world_of}
-use Rattle.of_datapath.specs.Numbers.{forwarding_of}
+use Rattle.of_datapath.specs.{Datapath.world_of, Numbers.forwarding_of}
 use Rattle.of_paths.proofs.SoFarLemmas.{ended_runs}
 use Rattle.of_paths.proofs.stepping.ended_path.Goals as goal
 

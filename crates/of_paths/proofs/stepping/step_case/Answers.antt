@@ -1,7 +1,5 @@
-use Rattle.std.proofs.Common.{◌<◌, length, refl, arith}
-use Rattle.std.proofs.lemmas.Grind.{common_steps}
-use Rattle.of_datapath.specs.Datapath.{world_of}
-use Rattle.of_datapath.specs.Numbers.{forwarding_of}
+use Rattle.std.proofs.{Common.◌<◌, Common.length, Common.refl, Common.arith, lemmas.Grind.common_steps}
+use Rattle.of_datapath.specs.{Datapath.world_of, Numbers.forwarding_of}
 use Rattle.of_paths.proofs.SoFarLemmas.{one_case, one_next}
 use Rattle.of_paths.proofs.stepping.step_case.Goals as goal
 

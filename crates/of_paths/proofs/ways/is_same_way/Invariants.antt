@@ -1,5 +1,4 @@
-use Rattle.std.proofs.Common.{drop}
-use Rattle.std.specs.Slice.Iter.{iter_rest}
+use Rattle.std.{specs.Slice.Iter.iter_rest, proofs.Common.drop}
 use Rattle.of_symbolic_run.proofs.Pairing.{SameIfLeft}
 use Rattle.of_paths.specs.Ways.{way_of}
 use Rattle.of_paths.proofs.ways.is_same_way.Given as goal

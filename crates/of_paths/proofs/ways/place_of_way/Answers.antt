@@ -1,6 +1,5 @@
 use Rattle.std.proofs.Common.{map}
-use Rattle.of_paths.specs.Ways.{class_way, way_of}
-use Rattle.of_paths.proofs.WayLemmas.{all_looked_at, none_more, way_at}
+use Rattle.of_paths.{specs.Ways.class_way, specs.Ways.way_of, proofs.WayLemmas.all_looked_at, proofs.WayLemmas.none_more, proofs.WayLemmas.way_at}
 use Rattle.of_paths.proofs.ways.place_of_way.Goals as goal
 
 pub loop-index-preserved : goal.loop-index-preserved

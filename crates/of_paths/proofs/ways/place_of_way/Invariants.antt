@@ -1,6 +1,5 @@
 use Rattle.std.proofs.Common.{map}
-use Rattle.of_paths.specs.Ways.{class_way, way_of}
-use Rattle.of_paths.proofs.WayLemmas.{HasNoneSoFar}
+use Rattle.of_paths.{specs.Ways.class_way, specs.Ways.way_of, proofs.WayLemmas.HasNoneSoFar}
 use Rattle.of_paths.proofs.ways.place_of_way.Given as goal
 
 abbrev pub invariant-loop-index : goal.invariant-loop-index

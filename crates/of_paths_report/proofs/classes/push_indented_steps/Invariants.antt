@@ -1,6 +1,4 @@
-use Rattle.std.proofs.Common.{◌≡◌, ◌++◌, drop}
-use Rattle.std.specs.List.{flat_map}
-use Rattle.std.specs.Prelude.{IsTrue}
+use Rattle.std.{specs.List.flat_map, specs.Prelude.IsTrue, proofs.Common.◌≡◌, proofs.Common.◌++◌, proofs.Common.drop}
 use Rattle.of_tracing.specs.Encoded.{are_encoded}
 use Rattle.of_paths_report.specs.PathsWords.{indented_line}
 use Rattle.of_paths_report.proofs.classes.push_indented_steps.Given as goal

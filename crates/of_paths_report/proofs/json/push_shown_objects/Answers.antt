@@ -1,5 +1,4 @@
-use Rattle.of_paths_report.specs.PathsJson.{class_object}
-use Rattle.of_paths_report.proofs.JsonLemmas.{all_shown}
+use Rattle.of_paths_report.{specs.PathsJson.class_object, proofs.JsonLemmas.all_shown}
 use Rattle.of_paths_report.proofs.json.push_shown_objects.Goals as goal
 
 pub returns : goal.returns

@@ -1,7 +1,6 @@
 use Rattle.std.proofs.Common.{◌<◌, ◌≤◌}
 use Rattle.of_layers.specs.declared.field.Field.{Field}
-use Rattle.of_regions.specs.Building.{IsBegunField, IsUnknown}
-use Rattle.of_regions.proofs.PlaceLemmas.{place}
+use Rattle.of_regions.{specs.Building.IsBegunField, specs.Building.IsUnknown, proofs.PlaceLemmas.place}
 use Rattle.of_regions.proofs.building.begun.Given as goal
 
 abbrev pub invariant-loop-field : goal.invariant-loop-field

@@ -1,5 +1,4 @@
-use Rattle.std.specs.Int.{trailing_zeros, w128}
-use Rattle.std.proofs.lemmas.Nat.Bits.{bit_at-trailing_zeros}
+use Rattle.std.{specs.Int.trailing_zeros, specs.Int.w128, proofs.lemmas.Nat.Bits.bit_at-trailing_zeros}
 use Rattle.of_regions.proofs.DividingLemmas.{bit_of, shifted}
 use Rattle.of_regions.proofs.dividing.lowest.Goals as goal
 

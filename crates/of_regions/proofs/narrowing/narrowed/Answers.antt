@@ -1,9 +1,7 @@
 use Rattle.std.proofs.Common.{◌+◌, ◌<◌, ℕ, List, get_or, length, take, ◌≡◌, subst}
-use Rattle.of_oxm.specs.declared.match_field.MatchField.{MatchField}
 use Rattle.std.proofs.lemmas.List.{take_more}
-use Rattle.of_regions.specs.declared.region.Region.{Region}
-use Rattle.of_regions.specs.Narrowing.{AreNarrowed, IsNarrowedBy}
-use Rattle.of_regions.proofs.NarrowingLemmas.{one_more_narrowed}
+use Rattle.of_oxm.specs.declared.match_field.MatchField.{MatchField}
+use Rattle.of_regions.{specs.declared.region.Region.Region, specs.Narrowing.AreNarrowed, specs.Narrowing.IsNarrowedBy, proofs.NarrowingLemmas.one_more_narrowed}
 use Rattle.of_regions.proofs.narrowing.narrowed.Goals as goal
 
 one_after : (fields : List MatchField) (regions : List Region) (i : ℕ) (r : Region) (out new : List Region) → r ≡ get_or regions i r → i < length regions → AreNarrowed fields (take i regions) out → IsNarrowedBy fields r out new → AreNarrowed fields (take (i + 1) regions) new

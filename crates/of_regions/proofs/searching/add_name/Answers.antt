@@ -1,9 +1,6 @@
 use Rattle.std.proofs.Common.{◌≡◌, ℕ, true, false, eqb, Option, Some, None, List, [], ◌∷◌, ◌++◌, get_or, refl, sym, ap, ◌∙◌, arith, rules}
-use Rattle.std.proofs.lemmas.Grind.{common_steps}
-use Rattle.std.specs.List.{insert, position}
-use Rattle.std.proofs.lemmas.Bool.{eq-eqb, ne_eqb}
-use Rattle.of_regions.specs.Naming.{with_place}
-use Rattle.of_regions.proofs.NamingLemmas.{IsPlace, from, named_within, named_behind}
+use Rattle.std.{specs.List.insert, specs.List.position, proofs.lemmas.Grind.common_steps, proofs.lemmas.Bool.eq-eqb, proofs.lemmas.Bool.ne_eqb}
+use Rattle.of_regions.{specs.Naming.with_place, proofs.NamingLemmas.IsPlace, proofs.NamingLemmas.from, proofs.NamingLemmas.named_within, proofs.NamingLemmas.named_behind}
 use Rattle.of_regions.proofs.searching.add_name.Goals as goal
 
 found : (j : ℕ) (xs ys : List ℕ) (r o : Option ℕ) → r ≡ position (from j) ys → ys ≡ xs → r ≡ o → position (from j) xs ≡ o

@@ -2,13 +2,8 @@ use Rattle.std.proofs.Common.{◌≡◌, ◌<◌, ◌≤◌, ◌+◌, ◌*◌, �
 use Rattle.std.specs.List.{Contains}
 use Rattle.of_layers.specs.declared.field.Field.{Field}
 use Rattle.of_oxm.specs.Relations.{matches_map}
-use Rattle.of_frames.specs.declared.shape.Shape.{Shape}
-use Rattle.of_frames.specs.declared.shape.Shape.TheVariants.{Bare}
-use Rattle.of_frames.specs.Rules.{HasShape}
-use Rattle.of_regions.specs.declared.region.Region.{Region}
-use Rattle.of_regions.specs.Regions.{InRegion}
-use Rattle.of_regions.specs.Searching.{InSome}
-use Rattle.of_regions.specs.Starting.{IsBegun}
+use Rattle.of_frames.specs.{declared.shape.Shape.Shape, declared.shape.Shape.TheVariants.Bare, Rules.HasShape}
+use Rattle.of_regions.specs.{declared.region.Region.Region, Regions.InRegion, Searching.InSome, Starting.IsBegun}
 use Rattle.of_regions.proofs.StartLemmas.{same_or, still_in, still_matched}
 use Rattle.of_regions.proofs.starting.regions_of.Goals as goal
 

@@ -1,7 +1,7 @@
 use Rattle.std.proofs.Common.{List, [], ◌∷◌, refl, arith}
 use Rattle.std.specs.List.{Contains}
-use Rattle.of_frames.specs.declared.shape.Shape.{Shape}
 use Rattle.of_frames.specs.declared.shape.Shape.TheVariants.{Bare, Arp, Ipv4, Ipv4Tcp, Ipv4Udp, Ipv4Icmp, Ipv6, Ipv6Tcp, Ipv6Udp, Ipv6Icmp}
+use Rattle.of_frames.specs.declared.shape.Shape.{Shape}
 use Rattle.of_regions.proofs.starting.shapes.Goals as goal
 
 abbrev said : List Shape

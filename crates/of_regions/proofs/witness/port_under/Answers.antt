@@ -1,7 +1,6 @@
 use Rattle.std.proofs.Common.{◌≡◌, ℕ, Option, Some, None}
 use Rattle.std.specs.Prelude.{IfNone, bit_and}
-use Rattle.of_regions.specs.Witness.{IsIngressPort}
-use Rattle.of_regions.proofs.WitnessLemmas.{no_port}
+use Rattle.of_regions.{specs.Witness.IsIngressPort, proofs.WitnessLemmas.no_port}
 use Rattle.of_regions.proofs.witness.port_under.Goals as goal
 
 no_ports : (mask known : ℕ) (o : Option ℕ) → known ≡ 0 → IfNone o (bit_and 0xffffffff mask ≡ 0xffffffff) → IfNone o ((port : ℕ) → bit_and port mask ≡ known → ¬ (IsIngressPort port))

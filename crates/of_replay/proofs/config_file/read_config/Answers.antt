@@ -1,6 +1,6 @@
 use Rattle.std.proofs.Common.{refl}
-use Rattle.of_replay.specs.FileRuns.{flow_text}
 use Rattle.of_replay.proofs.FileLemmas.{read_nothing, read_stopped, read_whole, faults_nothing, faults_unread, faults_whole}
+use Rattle.of_replay.specs.FileRuns.{flow_text}
 use Rattle.of_replay.proofs.config_file.read_config.Goals as goal
 
 pub returns-in_default-clause-config : goal.returns-in_default-clause-config

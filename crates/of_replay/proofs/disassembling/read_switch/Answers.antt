@@ -1,8 +1,6 @@
 use Rattle.std.proofs.Common.{refl, ◌∙◌}
-use Rattle.of_replay.proofs.FileLemmas.{read_nothing, faults_nothing, faults_done}
+use Rattle.of_replay.{specs.FileRuns.event_file, specs.RowTexts.plain_row_text, proofs.FileLemmas.read_nothing, proofs.FileLemmas.faults_nothing, proofs.FileLemmas.faults_done}
 use Rattle.of_replay.proofs.EventFileLemmas.{played_all, played_not, faults_unplayed}
-use Rattle.of_replay.specs.FileRuns.{event_file}
-use Rattle.of_replay.specs.RowTexts.{plain_row_text}
 use Rattle.of_replay.proofs.disassembling.read_switch.Goals as goal
 
 pub returns-in_default-clause-played : goal.returns-in_default-clause-played

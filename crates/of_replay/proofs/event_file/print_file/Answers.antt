@@ -1,5 +1,4 @@
-use Rattle.of_replay.proofs.Early.{early_none}
-use Rattle.of_replay.proofs.WholeRuns.{nothing_read, run_faults, unread_faults}
+use Rattle.of_replay.proofs.{Early.early_none, WholeRuns.nothing_read, WholeRuns.run_faults, WholeRuns.unread_faults}
 use Rattle.std.proofs.Common.{◌≡◌, ◌∙◌, refl}
 use Rattle.of_switch.specs.State.{start}
 use Rattle.of_replay.proofs.event_file.print_file.Goals as goal

@@ -1,6 +1,4 @@
-use Rattle.of_replay.proofs.Early.{early_as}
-use Rattle.of_replay.proofs.Lines.{plain_is}
-use Rattle.of_replay.proofs.WholeRuns.{replays_plain}
+use Rattle.of_replay.proofs.{Early.early_as, Lines.plain_is, WholeRuns.replays_plain}
 use Rattle.of_switch.specs.State.{start}
 use Rattle.of_replay.proofs.event_file.replay.Goals as goal
 

@@ -1,6 +1,5 @@
 use Rattle.of_build.specs.Building.{build_text}
-use Rattle.of_replay.specs.FileRuns.{flow_text, is_text}
-use Rattle.of_replay.proofs.FileLemmas.{runs_unread, runs_read, faults_written, faults_same}
+use Rattle.of_replay.{specs.FileRuns.flow_text, specs.FileRuns.is_text, proofs.FileLemmas.runs_unread, proofs.FileLemmas.runs_read, proofs.FileLemmas.faults_written, proofs.FileLemmas.faults_same}
 use Rattle.of_replay.proofs.flow_text.asm.Goals as goal
 
 pub returns-in-Err-clause-output : goal.returns-in-Err-clause-output

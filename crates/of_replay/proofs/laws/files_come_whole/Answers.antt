@@ -1,6 +1,5 @@
 use Rattle.of_build.specs.Building.{build_text}
-use Rattle.of_replay.specs.FileRuns.{event_file, flow_text, is_text, switch_text}
-use Rattle.of_replay.proofs.WholeFiles.{lines_whole, text_whole}
+use Rattle.of_replay.{specs.FileRuns.event_file, specs.FileRuns.flow_text, specs.FileRuns.is_text, specs.FileRuns.switch_text, proofs.WholeFiles.lines_whole, proofs.WholeFiles.text_whole}
 use Rattle.of_replay.proofs.laws.files_come_whole.Goals as goal
 
 pub returns-clause-lines : goal.returns-clause-lines

@@ -1,8 +1,5 @@
 use Rattle.std.proofs.Common.{◌∙◌, ap, map, List}
-use Rattle.of_switch.specs.declared.event.Event.{Event}
-use Rattle.of_switch.specs.State.{State}
-use Rattle.of_switch.specs.Runs.{run}
-use Rattle.of_switch.specs.Loading.{loaded}
+use Rattle.of_switch.specs.{declared.event.Event.Event, State.State, Runs.run, Loading.loaded}
 use Rattle.of_replay.specs.Loaded.{port_up}
 use Rattle.of_replay.proofs.loading.switch_of_config.Goals as goal
 

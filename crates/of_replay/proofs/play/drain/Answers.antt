@@ -1,5 +1,4 @@
-use Rattle.of_switch.specs.Steps.{gives}
-use Rattle.of_switch.proofs.Draining.{next_shorter, left_more, left_all}
+use Rattle.of_switch.{specs.Steps.gives, proofs.Draining.next_shorter, proofs.Draining.left_more, proofs.Draining.left_all}
 use Rattle.of_replay.proofs.play.drain.Goals as goal
 
 pub returns-in-None-clause-all : goal.returns-in-None-clause-all

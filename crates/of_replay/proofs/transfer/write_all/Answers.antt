@@ -1,6 +1,5 @@
 use Rattle.std.proofs.Common.{◌≡◌, ◌+◌, ℕ, List, Option, [], subst, take, drop, arith, length-drop, sym, take-add}
-use Rattle.std.proofs.lemmas.List.{append-nil, take-append-drop}
-use Rattle.std.specs.Io.KnownBytes.{Appends}
+use Rattle.std.{specs.Io.KnownBytes.Appends, proofs.lemmas.List.append-nil, proofs.lemmas.List.take-append-drop}
 use Rattle.of_replay.proofs.TellingLemmas.{appends-none, appends-then}
 use Rattle.of_replay.proofs.transfer.write_all.Goals as goal
 

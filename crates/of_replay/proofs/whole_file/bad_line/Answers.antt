@@ -1,9 +1,6 @@
 use Rattle.std.proofs.Common.{◌≡◌, ℕ, true, false, List, sym, ap, ◌∙◌, arith}
-use Rattle.of_text.specs.Lines.{lines_of, before}
-use Rattle.of_text.proofs.LineLemmas.{some_bytes, no_bytes}
-use Rattle.of_replay.specs.Lexing.{is_line}
-use Rattle.of_replay.specs.WholeFiles.{unreadable}
-use Rattle.of_replay.proofs.FileLemmas.{bad_here, good_here, all_good}
+use Rattle.of_text.{specs.Lines.lines_of, specs.Lines.before, proofs.LineLemmas.some_bytes, proofs.LineLemmas.no_bytes}
+use Rattle.of_replay.{specs.Lexing.is_line, specs.WholeFiles.unreadable, proofs.FileLemmas.bad_here, proofs.FileLemmas.good_here, proofs.FileLemmas.all_good}
 use Rattle.of_replay.proofs.whole_file.bad_line.Goals as goal
 
 pub returns-then-not-is_readable : goal.returns-then-not-is_readable

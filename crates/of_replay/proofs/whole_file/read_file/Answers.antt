@@ -1,8 +1,6 @@
-use Rattle.std.proofs.Common.{arith, refl, take}
-use Rattle.std.proofs.lemmas.Result.{err_from_is_err_and}
-use Rattle.of_replay.specs.Told.{Ended, Failed}
-use Rattle.of_replay.proofs.TellingLemmas.{gave_front}
+use Rattle.std.proofs.{Common.arith, Common.refl, Common.take, lemmas.Result.err_from_is_err_and}
 use Rattle.of_replay.proofs.FileLemmas.{file_begun, file_idle, file_more, file_ends, file_stops, file_unkept}
+use Rattle.of_replay.{specs.Told.Ended, specs.Told.Failed, proofs.TellingLemmas.gave_front}
 use Rattle.of_replay.proofs.whole_file.read_file.Goals as goal
 
 pub loop-init : goal.loop-init

@@ -1,5 +1,4 @@
-use Rattle.of_report.specs.Report.{reported_remark_words}
-use Rattle.of_report.proofs.WordLemmas.{ended}
+use Rattle.of_report.{specs.Report.reported_remark_words, proofs.WordLemmas.ended}
 use Rattle.of_report.proofs.remarks.push_remark.Goals as goal
 
 pub returns-in_ok-push_entry-in-EmptyGoto : goal.returns-in_ok-push_entry-in-EmptyGoto

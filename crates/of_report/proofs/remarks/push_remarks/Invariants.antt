@@ -1,5 +1,4 @@
-use Rattle.std.proofs.Common.{◌≡◌, ◌++◌, drop}
-use Rattle.std.specs.List.{flat_map}
+use Rattle.std.{specs.List.flat_map, proofs.Common.◌≡◌, proofs.Common.◌++◌, proofs.Common.drop}
 use Rattle.of_values.specs.Origins.{view_origins}
 use Rattle.of_report.specs.Report.{reported_remark_line}
 use Rattle.of_report.proofs.remarks.push_remarks.Given as goal

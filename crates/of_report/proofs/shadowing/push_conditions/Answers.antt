@@ -1,5 +1,4 @@
-use Rattle.of_report.specs.Shadowing.{conditions_line}
-use Rattle.of_report.proofs.WordLemmas.{four}
+use Rattle.of_report.{specs.Shadowing.conditions_line, proofs.WordLemmas.four}
 use Rattle.of_report.proofs.shadowing.push_conditions.Goals as goal
 
 pub returns : goal.returns

@@ -1,5 +1,4 @@
-use Rattle.of_report.specs.Shadowing.{flow_win_words}
-use Rattle.of_report.proofs.WordLemmas.{four_joined}
+use Rattle.of_report.{specs.Shadowing.flow_win_words, proofs.WordLemmas.four_joined}
 use Rattle.of_report.proofs.shadowing.push_win.Goals as goal
 
 pub returns-in_ok-push-in-Wins : goal.returns-in_ok-push-in-Wins

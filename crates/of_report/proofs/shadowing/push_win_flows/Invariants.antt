@@ -1,5 +1,4 @@
-use Rattle.std.proofs.Common.{◌≡◌, ◌++◌, drop}
-use Rattle.std.specs.List.{flat_map}
+use Rattle.std.{specs.List.flat_map, proofs.Common.◌≡◌, proofs.Common.◌++◌, proofs.Common.drop}
 use Rattle.of_check.specs.declared.finding.Finding.{Finding}
 use Rattle.of_report.specs.Shadowing.{flow_win_words}
 use Rattle.of_report.proofs.shadowing.push_win_flows.Given as goal

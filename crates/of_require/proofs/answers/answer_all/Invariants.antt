@@ -1,9 +1,6 @@
-use Rattle.std.proofs.Common.{◌≡◌, ◌++◌, map}
-use Rattle.std.specs.List.{AllByRecursion}
-use Rattle.of_datapath.specs.Datapath.{world_of}
-use Rattle.of_datapath.specs.Numbers.{forwarding_of}
-use Rattle.of_require.specs.declared.answers.Answer.{Answer}
-use Rattle.of_require.specs.Answers.{IsFoundAbout}
+use Rattle.std.{specs.List.AllByRecursion, proofs.Common.◌≡◌, proofs.Common.◌++◌, proofs.Common.map}
+use Rattle.of_datapath.specs.{Datapath.world_of, Numbers.forwarding_of}
+use Rattle.of_require.specs.{declared.answers.Answer.Answer, Answers.IsFoundAbout}
 use Rattle.of_require.proofs.answers.answer_all.Given as goal
 
 abbrev pub invariant-loop-line : goal.invariant-loop-line

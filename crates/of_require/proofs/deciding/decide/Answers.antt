@@ -1,9 +1,7 @@
 use Rattle.std.proofs.Common.{◌∙◌, List, ℕ, ap, map, sym, subst, take}
 use Rattle.of_ports.specs.Ports.{number_of_port}
-use Rattle.of_datapath.specs.Datapath.{world_of}
-use Rattle.of_datapath.specs.Numbers.{forwarding_of}
-use Rattle.of_require.specs.Deciding.{IsDecisionFor}
-use Rattle.of_require.proofs.PortLemmas.{all_ports, no_ports, one_more_port, whole_list}
+use Rattle.of_datapath.specs.{Datapath.world_of, Numbers.forwarding_of}
+use Rattle.of_require.{specs.Deciding.IsDecisionFor, proofs.PortLemmas.all_ports, proofs.PortLemmas.no_ports, proofs.PortLemmas.one_more_port, proofs.PortLemmas.whole_list}
 use Rattle.of_require.proofs.deciding.decide.Goals as goal
 
 pub loop-port-init : goal.loop-port-init

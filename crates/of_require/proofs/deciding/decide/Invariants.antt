@@ -1,7 +1,6 @@
 use Rattle.std.proofs.Common.{map, take}
 use Rattle.of_ports.specs.Ports.{number_of_port}
-use Rattle.of_datapath.specs.Datapath.{world_of}
-use Rattle.of_datapath.specs.Numbers.{forwarding_of}
+use Rattle.of_datapath.specs.{Datapath.world_of, Numbers.forwarding_of}
 use Rattle.of_require.specs.Deciding.{IsDecisionFor}
 use Rattle.of_require.proofs.deciding.decide.Given as goal
 

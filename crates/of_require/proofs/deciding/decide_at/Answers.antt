@@ -1,10 +1,8 @@
 use Rattle.std.proofs.Common.{◌∙◌, ℕ, ap, eqb, inl, inr, sym}
-use Rattle.of_datapath.specs.Datapath.{world_of}
-use Rattle.of_datapath.specs.Numbers.{forwarding_of}
-use Rattle.of_require.specs.Deciding.{none_leaves}
+use Rattle.of_datapath.specs.{Datapath.world_of, Numbers.forwarding_of}
 use Rattle.of_require.proofs.DecidingLemmas.{no_items, none_matched, none_shows, some_items, sought_frame, sought_none, sought_unknown}
+use Rattle.of_require.{specs.Deciding.none_leaves, proofs.PortLemmas.none_received}
 use Rattle.of_symbolic_run.proofs.ReceivedLemmas.{silent_port}
-use Rattle.of_require.proofs.PortLemmas.{none_received}
 use Rattle.of_require.proofs.deciding.decide_at.Goals as goal
 
 pub returns-then-not-receiving_port : goal.returns-then-not-receiving_port

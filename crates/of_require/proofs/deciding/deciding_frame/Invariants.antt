@@ -1,5 +1,4 @@
-use Rattle.std.proofs.Common.{◌≡◌, ◌++◌, false}
-use Rattle.std.specs.List.{Contains}
+use Rattle.std.{specs.List.Contains, proofs.Common.◌≡◌, proofs.Common.◌++◌, proofs.Common.false}
 use Rattle.of_paths.specs.declared.path.PathClass.{PathClass}
 use Rattle.of_require.specs.Deciding.{class_decides}
 use Rattle.of_require.proofs.deciding.deciding_frame.Given as goal

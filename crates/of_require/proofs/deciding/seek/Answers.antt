@@ -1,8 +1,6 @@
 use Rattle.std.proofs.Common.{ap, sym}
-use Rattle.of_datapath.specs.Datapath.{world_of}
-use Rattle.of_datapath.specs.Numbers.{forwarding_of}
-use Rattle.of_require.specs.Deciding.{is_plain}
-use Rattle.of_require.proofs.PacketLemmas.{classes_sought}
+use Rattle.of_datapath.specs.{Datapath.world_of, Numbers.forwarding_of}
+use Rattle.of_require.{specs.Deciding.is_plain, proofs.PacketLemmas.classes_sought}
 use Rattle.of_require.proofs.deciding.seek.Goals as goal
 
 pub returns-in_ok-sought-in-Has : goal.returns-in_ok-sought-in-Has

@@ -1,10 +1,6 @@
-use Rattle.std.proofs.Common.{◌∙◌, ap, sym}
-use Rattle.std.specs.List.{Contains}
-use Rattle.of_datapath.specs.Datapath.{world_of}
-use Rattle.of_datapath.specs.Numbers.{forwarding_of}
-use Rattle.of_require.specs.Requirements.{is_leaving}
-use Rattle.of_require.proofs.ListLemmas.{at_end}
-use Rattle.of_require.proofs.PacketLemmas.{class_sought, none_leaves_there}
+use Rattle.std.{specs.List.Contains, proofs.Common.◌∙◌, proofs.Common.ap, proofs.Common.sym}
+use Rattle.of_datapath.specs.{Datapath.world_of, Numbers.forwarding_of}
+use Rattle.of_require.{specs.Requirements.is_leaving, proofs.ListLemmas.at_end, proofs.PacketLemmas.class_sought, proofs.PacketLemmas.none_leaves_there}
 use Rattle.of_require.proofs.deciding.seek_in_class.Goals as goal
 
 pub returns-then-not-is_leaving : goal.returns-then-not-is_leaving

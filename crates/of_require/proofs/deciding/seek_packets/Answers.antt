@@ -1,12 +1,8 @@
 use Rattle.std.proofs.Common.{◌≡◌, ◌∙◌, ◌++◌, ◌∷◌, List, ℕ, true, ap, eqb, refl, subst, sym}
-use Rattle.std.specs.List.{Contains}
-use Rattle.std.proofs.lemmas.List.{append-nil}
-use Rattle.of_datapath.specs.Datapath.{world_of}
-use Rattle.of_datapath.specs.Numbers.{forwarding_of}
+use Rattle.std.{specs.List.Contains, proofs.lemmas.List.append-nil}
+use Rattle.of_datapath.specs.{Datapath.world_of, Numbers.forwarding_of}
 use Rattle.of_paths.specs.declared.path.PathClass.{PathClass}
-use Rattle.of_require.specs.Deciding.{IsSoughtInClass}
-use Rattle.of_require.proofs.DecidingLemmas.{in_middle, no_items, one_more}
-use Rattle.of_require.proofs.ListLemmas.{at_end}
+use Rattle.of_require.{specs.Deciding.IsSoughtInClass, proofs.DecidingLemmas.in_middle, proofs.DecidingLemmas.no_items, proofs.DecidingLemmas.one_more, proofs.ListLemmas.at_end}
 use Rattle.of_require.proofs.PacketLemmas.{one_without}
 use Rattle.of_require.proofs.deciding.seek_packets.Goals as goal
 

@@ -1,8 +1,6 @@
 use Rattle.std.proofs.Common.{List, subst}
 use Rattle.of_symbolic_run.specs.declared.state.Emission.{Emission}
-use Rattle.of_require.specs.Packets.{AreAsked}
-use Rattle.of_require.proofs.ListLemmas.{all_taken}
-use Rattle.of_require.proofs.DividingLemmas.{asked_more, asked_never, conditions_more}
+use Rattle.of_require.{specs.Packets.AreAsked, proofs.ListLemmas.all_taken, proofs.DividingLemmas.asked_more, proofs.DividingLemmas.asked_never, proofs.DividingLemmas.conditions_more}
 use Rattle.of_require.proofs.packets.all_asked.Goals.{in-Never, in-When+in_ok-push-in-When}
 use Rattle.of_require.proofs.packets.all_asked.Goals as goal
 

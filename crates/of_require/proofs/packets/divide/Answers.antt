@@ -1,8 +1,6 @@
 use Rattle.std.proofs.Common.{◌∙◌, ◌++◌, ◌∷◌, [], List, ap, sym, subst}
 use Rattle.of_symbolic_run.specs.declared.frame_set.FrameSet.{FrameSet}
-use Rattle.of_require.specs.Deciding.{AreDivided}
-use Rattle.of_require.proofs.DecidingLemmas.{one_more}
-use Rattle.of_require.proofs.DividingLemmas.{divided_more}
+use Rattle.of_require.{specs.Deciding.AreDivided, proofs.DecidingLemmas.one_more, proofs.DividingLemmas.divided_more}
 use Rattle.of_require.proofs.packets.divide.Goals as goal
 
 pub loop-set-preserved : goal.loop-set-preserved

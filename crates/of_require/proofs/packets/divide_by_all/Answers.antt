@@ -2,9 +2,7 @@ use Rattle.std.proofs.Common.{◌∙◌, ◌++◌, ◌∷◌, [], List, ap, sym,
 use Rattle.std.specs.Global.{Vec}
 use Rattle.of_oxm.specs.declared.match_field.MatchField.{MatchField}
 use Rattle.of_symbolic_run.specs.declared.frame_set.FrameSet.{FrameSet}
-use Rattle.of_require.specs.Deciding.{AreDividedByAll}
-use Rattle.of_require.proofs.DividingLemmas.{by_none, by_one_more}
-use Rattle.of_require.proofs.ListLemmas.{taken_item}
+use Rattle.of_require.{specs.Deciding.AreDividedByAll, proofs.DividingLemmas.by_none, proofs.DividingLemmas.by_one_more, proofs.ListLemmas.taken_item}
 use Rattle.of_require.proofs.packets.divide_by_all.Goals as goal
 
 pub loop-fields-init : goal.loop-fields-init

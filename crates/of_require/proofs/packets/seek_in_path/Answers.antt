@@ -1,5 +1,4 @@
-use Rattle.of_datapath.specs.Datapath.{world_of}
-use Rattle.of_datapath.specs.Numbers.{forwarding_of}
+use Rattle.of_datapath.specs.{Datapath.world_of, Numbers.forwarding_of}
 use Rattle.of_require.proofs.PacketLemmas.{sought_in_sets}
 use Rattle.of_require.proofs.packets.seek_in_path.Goals as goal
 

@@ -1,6 +1,5 @@
 use Rattle.std.proofs.Common.{◌∙◌, ap, inr, sym}
-use Rattle.of_require.specs.Decisions.{decides}
-use Rattle.of_require.proofs.PacketLemmas.{ingress_fits}
+use Rattle.of_require.{specs.Decisions.decides, proofs.PacketLemmas.ingress_fits}
 use Rattle.of_require.proofs.packets.seek_in_set.Goals as goal
 
 pub returns-then-not-decides : goal.returns-then-not-decides

@@ -1,11 +1,8 @@
 use Rattle.std.proofs.Common.{List, subst, sym}
-use Rattle.of_datapath.specs.Datapath.{world_of}
-use Rattle.of_datapath.specs.Numbers.{forwarding_of}
+use Rattle.of_datapath.specs.{Datapath.world_of, Numbers.forwarding_of}
 use Rattle.of_symbolic_run.specs.declared.frame_set.FrameSet.{FrameSet}
-use Rattle.of_require.specs.Deciding.{IsSoughtInSet, IsSoughtInSets, found_so_far}
-use Rattle.of_require.proofs.ListLemmas.{all_taken, at_end, taken_item}
-use Rattle.of_require.proofs.PacketLemmas.{one_without}
-use Rattle.of_require.proofs.packets.seek_in_sets.Goals.{in-NoFrame, in-Undecided}
+use Rattle.of_require.{specs.Deciding.IsSoughtInSet, specs.Deciding.IsSoughtInSets, specs.Deciding.found_so_far, proofs.ListLemmas.all_taken, proofs.ListLemmas.at_end, proofs.ListLemmas.taken_item}
+use Rattle.of_require.proofs.{PacketLemmas.one_without, packets.seek_in_sets.Goals.in-NoFrame, packets.seek_in_sets.Goals.in-Undecided}
 use Rattle.of_require.proofs.packets.seek_in_sets.Goals as goal
 
 pub loop-set-preserved : goal.loop-set-preserved

@@ -1,6 +1,5 @@
 use Rattle.std.proofs.Common.{take}
-use Rattle.of_datapath.specs.Datapath.{world_of}
-use Rattle.of_datapath.specs.Numbers.{forwarding_of}
+use Rattle.of_datapath.specs.{Datapath.world_of, Numbers.forwarding_of}
 use Rattle.of_require.specs.Deciding.{IsSoughtInSets, found_so_far}
 use Rattle.of_require.proofs.packets.seek_in_sets.Given as goal
 

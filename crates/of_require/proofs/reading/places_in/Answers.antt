@@ -1,10 +1,8 @@
 use Rattle.std.proofs.Common.{◌∙◌, ◌∷◌, [], List, ap, sym}
-use Rattle.of_ovs_words.specs.Words.{words_from}
+use Rattle.of_ovs_words.{specs.Words.words_from, proofs.WordLemmas.no_bytes, proofs.WordLemmas.some_bytes}
 use Rattle.of_paths.specs.declared.destination.Destination.{Destination}
-use Rattle.of_require.specs.Reading.{place_named}
-use Rattle.of_require.specs.Refusals.{each_said}
-use Rattle.of_ovs_words.proofs.WordLemmas.{no_bytes, some_bytes}
 use Rattle.of_require.proofs.ReadingLemmas.{behind_said, places_are, places_end, places_more, places_stop, pushed_ok, same_stop}
+use Rattle.of_require.specs.{Reading.place_named, Refusals.each_said}
 use Rattle.of_require.proofs.reading.places_in.Goals as goal
 
 pub loop-rest-preserved : goal.loop-rest-preserved

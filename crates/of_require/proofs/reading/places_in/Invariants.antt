@@ -1,8 +1,6 @@
 use Rattle.std.proofs.Common.{◌≡◌, ◌++◌, length, Ok}
-use Rattle.of_ovs_words.specs.Outcomes.{◌>>=◌}
-use Rattle.of_ovs_words.specs.Words.{words_from}
-use Rattle.of_require.specs.Reading.{place_named}
-use Rattle.of_require.specs.Refusals.{each_said}
+use Rattle.of_ovs_words.specs.{Outcomes.◌>>=◌, Words.words_from}
+use Rattle.of_require.specs.{Reading.place_named, Refusals.each_said}
 use Rattle.of_require.proofs.reading.places_in.Given as goal
 
 abbrev pub decreases-loop-rest : goal.decreases-loop-rest

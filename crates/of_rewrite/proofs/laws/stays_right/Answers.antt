@@ -1,5 +1,4 @@
-use Rattle.of_rewrite.proofs.Changes.{without_word, off_again}
-use Rattle.of_rewrite.proofs.Righting.{right_again, never_wrong}
+use Rattle.of_rewrite.proofs.{Changes.without_word, Changes.off_again, Righting.right_again, Righting.never_wrong}
 use Rattle.of_rewrite.proofs.laws.stays_right.Goals as goal
 
 pub returns : goal.returns

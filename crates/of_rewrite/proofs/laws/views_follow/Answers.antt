@@ -1,5 +1,4 @@
-use Rattle.of_rewrite.proofs.Calling.{still_frame}
-use Rattle.of_rewrite.proofs.Viewing.{view_follows, fixed_stays}
+use Rattle.of_rewrite.proofs.{Calling.still_frame, Viewing.view_follows, Viewing.fixed_stays}
 use Rattle.of_rewrite.proofs.laws.views_follow.Goals as goal
 
 pub returns-clause-view : goal.returns-clause-view

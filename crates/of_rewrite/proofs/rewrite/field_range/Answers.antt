@@ -1,7 +1,6 @@
 use Rattle.std.proofs.Common.{sym, ◌∙◌, arith}
 use Rattle.of_layers.specs.Fields.{number_of}
-use Rattle.of_rewrite.proofs.Lending.{lent_whole, lent_begun, lent_ended, lent_absent}
-use Rattle.of_rewrite.proofs.Unset.{place_facts, place_inside}
+use Rattle.of_rewrite.proofs.{Lending.lent_whole, Lending.lent_begun, Lending.lent_ended, Lending.lent_absent, Unset.place_facts, Unset.place_inside}
 use Rattle.of_rewrite.proofs.rewrite.field_range.Goals as goal
 
 pub overflow_add-result : goal.overflow_add-result

@@ -1,10 +1,6 @@
 use Rattle.std.proofs.Common.{◌<◌, ◌*◌, ◌^◌, length, sym, ◌∙◌, arith}
 use Rattle.of_layers.specs.Fields.{number_of}
-use Rattle.of_rewrite.proofs.Unset.{place_facts, replaceable, unset_frame}
-use Rattle.of_rewrite.proofs.Framing.{is_set}
-use Rattle.of_rewrite.proofs.KeptLayers.{layers_are, leaves}
-use Rattle.of_rewrite.proofs.StayingRight.{stay_right}
-use Rattle.of_rewrite.proofs.StayingOff.{stay_off}
+use Rattle.of_rewrite.proofs.{Unset.place_facts, Unset.replaceable, Unset.unset_frame, Framing.is_set, KeptLayers.layers_are, KeptLayers.leaves, StayingRight.stay_right, StayingOff.stay_off}
 use Rattle.of_rewrite.proofs.rewrite.set_field.Goals as goal
 
 pub set_number-requires-clause-most : goal.set_number-requires-clause-most

@@ -1,16 +1,8 @@
 use Rattle.std.proofs.Common.{◌≡◌, ℕ, List, sym, ap, ◌∙◌, length, subst, refl}
-use Rattle.of_layers.specs.Bits.{bits_of}
-use Rattle.of_layers.specs.Reading.{layers_of}
-use Rattle.of_layers.proofs.FrameLemmas.{frame_encoded, are_layers}
-use Rattle.of_layers.specs.Layers.{encoded}
-use Rattle.of_headers.specs.declared.layout.Layout.{Layout}
-use Rattle.of_headers.specs.Places.{layout_of}
-use Rattle.of_rewrite.specs.declared.sums.Sums.{Sums}
-use Rattle.of_rewrite.specs.Spans.{AreEven, both_followed}
-use Rattle.of_rewrite.specs.Renewal.{sums_of, with_header, with_carried}
-use Rattle.of_rewrite.proofs.Covering.{set_where}
-use Rattle.of_rewrite.proofs.Unset.{frame_stands}
-use Rattle.of_rewrite.proofs.Renewing.{renewed_all, sums_even, room_for}
+use Rattle.of_layers.{specs.Bits.bits_of, specs.Reading.layers_of, specs.Layers.encoded, proofs.FrameLemmas.frame_encoded, proofs.FrameLemmas.are_layers}
+use Rattle.of_headers.specs.{declared.layout.Layout.Layout, Places.layout_of}
+use Rattle.of_rewrite.specs.{declared.sums.Sums.Sums, Spans.AreEven, Spans.both_followed, Renewal.sums_of, Renewal.with_header, Renewal.with_carried}
+use Rattle.of_rewrite.proofs.{Covering.set_where, Unset.frame_stands, Renewing.renewed_all, Renewing.sums_even, Renewing.room_for}
 use Rattle.of_rewrite.proofs.rewrite.set_number.Goals as goal
 
 pub sums_in-sums-requires : goal.sums_in-sums-requires

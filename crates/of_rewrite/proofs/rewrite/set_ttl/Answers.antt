@@ -1,11 +1,7 @@
 use Rattle.std.proofs.Common.{◌≤◌, ◌<◌, length, arith}
 use Rattle.of_layers.specs.Layers.{ttl}
-use Rattle.of_rewrite.specs.Renewal.{packet_at}
 use Rattle.of_rewrite.proofs.Unset.{TtlIs, ttl_is, no_ttl, packet_below, unset_frame}
-use Rattle.of_rewrite.proofs.Framing.{is_ttl}
-use Rattle.of_rewrite.proofs.KeptLayers.{layers_are, leaves_ttl}
-use Rattle.of_rewrite.proofs.StayingRight.{stay_right}
-use Rattle.of_rewrite.proofs.StayingOff.{stay_off}
+use Rattle.of_rewrite.{specs.Renewal.packet_at, proofs.Framing.is_ttl, proofs.KeptLayers.layers_are, proofs.KeptLayers.leaves_ttl, proofs.StayingRight.stay_right, proofs.StayingOff.stay_off}
 use Rattle.of_rewrite.proofs.rewrite.set_ttl.Goals as goal
 
 pub ttl_byte-requires : goal.ttl_byte-requires

@@ -1,11 +1,6 @@
 use Rattle.std.proofs.Common.{◌≤◌, length, sym, arith}
-use Rattle.of_layers.specs.Reading.{layers_of}
-use Rattle.of_layers.specs.Layers.{cells, ttl}
-use Rattle.of_layers.proofs.FrameLemmas.{frame_encoded}
-use Rattle.of_rewrite.specs.Renewal.{packet_at}
-use Rattle.of_rewrite.proofs.Finding.{not_found}
-use Rattle.of_rewrite.proofs.Unset.{ttl_is, no_ttl, packet_below}
-use Rattle.of_rewrite.proofs.Framing.{bytes_are}
+use Rattle.of_layers.{specs.Reading.layers_of, specs.Layers.cells, specs.Layers.ttl, proofs.FrameLemmas.frame_encoded}
+use Rattle.of_rewrite.{specs.Renewal.packet_at, proofs.Finding.not_found, proofs.Unset.ttl_is, proofs.Unset.no_ttl, proofs.Unset.packet_below, proofs.Framing.bytes_are}
 use Rattle.of_rewrite.proofs.rewrite.ttl_in.Goals as goal
 
 pub ttl_byte-requires : goal.ttl_byte-requires

@@ -1,7 +1,6 @@
 use Rattle.std.proofs.Common.{◌≡◌, ◌<◌, ◌+◌, ◌-◌, ◌*◌, ◌%◌, ◌/◌, arith}
-use Rattle.of_rewrite.proofs.Putting.{part_below}
+use Rattle.of_rewrite.proofs.{Putting.part_below, writing.with_part.Goals.After-from}
 use Rattle.of_rewrite.proofs.writing.with_part.Goals as goal
-use Rattle.of_rewrite.proofs.writing.with_part.Goals.{After-from}
 
 small : (c : After-from) → (c.from-word.result / c.power-unit.result / c.power-span.result * c.power-span.result + c.from.result % c.power-span.result) * c.power-unit.result + c.from-word.result % c.power-unit.result < 65536
 small c =

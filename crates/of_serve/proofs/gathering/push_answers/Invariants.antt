@@ -1,5 +1,4 @@
-use Rattle.std.proofs.Common.{◌≡◌, ◌++◌, take}
-use Rattle.std.specs.List.{flat_map}
+use Rattle.std.{specs.List.flat_map, proofs.Common.◌≡◌, proofs.Common.◌++◌, proofs.Common.take}
 use Rattle.of_serve.specs.Turns.{answer_in}
 use Rattle.of_serve.proofs.gathering.push_answers.Given as goal
 

@@ -1,7 +1,5 @@
 use Rattle.of_switch.specs.State.{start}
-use Rattle.of_serve.specs.Turns.{standing}
-use Rattle.of_serve.specs.Serves.{tells}
-use Rattle.of_serve.proofs.Steps.{serves_nothing}
+use Rattle.of_serve.{specs.Turns.standing, specs.Serves.tells, proofs.Steps.serves_nothing}
 use Rattle.of_serve.proofs.serving.serve.Goals as goal
 
 pub returns-in-Err-clause-serves : goal.returns-in-Err-clause-serves

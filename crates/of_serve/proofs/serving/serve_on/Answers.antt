@@ -1,8 +1,7 @@
 use Rattle.std.proofs.Common.{◌∙◌, ◌+◌, sym}
 use Rattle.of_replay.specs.Stepping.{ended_so}
-use Rattle.of_serve.specs.Turns.{standing}
-use Rattle.of_serve.specs.Serves.{tells}
 use Rattle.of_serve.proofs.Steps.{serves_nothing, serves_from, done_counts, read_faults, write_faults}
+use Rattle.of_serve.specs.{Turns.standing, Serves.tells}
 use Rattle.of_serve.proofs.serving.serve_on.Goals as goal
 
 pub returns-in_default-clause-serves : goal.returns-in_default-clause-serves

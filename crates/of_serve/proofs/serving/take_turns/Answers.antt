@@ -1,8 +1,6 @@
-use Rattle.std.proofs.Common.{◌∙◌, ◌+◌, refl, arith}
-use Rattle.std.proofs.lemmas.Result.{err_from_is_err_and}
-use Rattle.of_serve.specs.Turns.{standing}
-use Rattle.of_serve.specs.Serves.{tells}
+use Rattle.std.proofs.{Common.◌∙◌, Common.◌+◌, Common.refl, Common.arith, lemmas.Result.err_from_is_err_and}
 use Rattle.of_serve.proofs.Steps.{so_far_begun, so_far_more, is_empty, serves_all, serves_until, counts_on, fails_from}
+use Rattle.of_serve.specs.{Turns.standing, Serves.tells}
 use Rattle.of_serve.proofs.serving.take_turns.Goals as goal
 
 pub loop-init : goal.loop-init

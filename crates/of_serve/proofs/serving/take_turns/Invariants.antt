@@ -1,7 +1,5 @@
 use Rattle.std.proofs.Common.{◌≡◌, ◌≤◌, ◌+◌}
-use Rattle.of_serve.specs.Turns.{nothing_pending, standing}
-use Rattle.of_serve.specs.Serves.{tells}
-use Rattle.of_serve.specs.Gathering.{SoFar}
+use Rattle.of_serve.specs.{Turns.nothing_pending, Turns.standing, Serves.tells, Gathering.SoFar}
 use Rattle.of_serve.proofs.serving.take_turns.Given as goal
 
 abbrev pub invariant-loop : goal.invariant-loop

@@ -1,8 +1,6 @@
 use Rattle.std.proofs.Common.{◌∷◌, []}
 use Rattle.of_switch.specs.declared.event.Event.TheVariants.{Moment}
-use Rattle.of_serve.specs.Turns.{due}
-use Rattle.of_serve.proofs.CutLemmas.{cut_before, cut_later, on_err}
-use Rattle.of_serve.proofs.Steps.{read_told, read_cuts, not_read}
+use Rattle.of_serve.{specs.Turns.due, proofs.CutLemmas.cut_before, proofs.CutLemmas.cut_later, proofs.CutLemmas.on_err, proofs.Steps.read_told, proofs.Steps.read_cuts, proofs.Steps.not_read}
 use Rattle.of_serve.proofs.turns.read_turn.Goals as goal
 
 pub returns-in_err-play-clause-cuts : goal.returns-in_err-play-clause-cuts

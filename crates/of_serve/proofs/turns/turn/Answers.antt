@@ -1,7 +1,5 @@
 use Rattle.std.proofs.Common.{rules}
-use Rattle.of_serve.specs.Turns.{standing}
-use Rattle.of_serve.specs.Serves.{tells}
-use Rattle.of_serve.proofs.Steps.{NotRead, turn_goes, turn_stops, turn_writes}
+use Rattle.of_serve.{specs.Turns.standing, specs.Serves.tells, proofs.Steps.NotRead, proofs.Steps.turn_goes, proofs.Steps.turn_stops, proofs.Steps.turn_writes}
 use Rattle.of_serve.proofs.turns.turn.Goals as goal
 
 pub returns-clause-goes : goal.returns-clause-goes

@@ -1,7 +1,6 @@
 use Rattle.std.proofs.Common.{◌∙◌, ap, take, drop, arith, length-drop, sym, take-add}
 use Rattle.std.proofs.lemmas.List.{take-append-drop}
-use Rattle.of_serve.specs.Told.{then_onto}
-use Rattle.of_serve.proofs.TurnLemmas.{took-took, took-nil}
+use Rattle.of_serve.{specs.Told.then_onto, proofs.TurnLemmas.took-took, proofs.TurnLemmas.took-nil}
 use Rattle.of_serve.proofs.turns.write_answers.Goals as goal
 
 pub loop-at-preserved : goal.loop-at-preserved

@@ -1,10 +1,7 @@
 use Rattle.std.proofs.Common.{◌∙◌, ap, sym}
-use Rattle.of_ovs_words.specs.Words.{words_from}
-use Rattle.of_ovs_words.proofs.WordLemmas.{some_bytes, no_bytes}
-use Rattle.of_ovs_lines.specs.LineContents.{with_words}
-use Rattle.of_ovs_lines.proofs.LineLemmas.{words_at_end, words_passed, words_more}
-use Rattle.of_shadowing.specs.LineWords.{with_line_word}
-use Rattle.of_shadowing.specs.LineWordViews.{view_line_words}
+use Rattle.of_ovs_words.{specs.Words.words_from, proofs.WordLemmas.some_bytes, proofs.WordLemmas.no_bytes}
+use Rattle.of_ovs_lines.{specs.LineContents.with_words, proofs.LineLemmas.words_at_end, proofs.LineLemmas.words_passed, proofs.LineLemmas.words_more}
+use Rattle.of_shadowing.specs.{LineWords.with_line_word, LineWordViews.view_line_words}
 use Rattle.of_shadowing.proofs.line_words.split_line.Goals as goal
 
 pub loop-rest-init : goal.loop-rest-init

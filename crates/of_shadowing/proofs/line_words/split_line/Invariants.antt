@@ -1,8 +1,7 @@
 use Rattle.std.proofs.Common.{◌≡◌, length}
 use Rattle.of_ovs_words.specs.Words.{words_from}
 use Rattle.of_ovs_lines.specs.LineContents.{with_words}
-use Rattle.of_shadowing.specs.LineWords.{no_line_words, with_line_word}
-use Rattle.of_shadowing.specs.LineWordViews.{view_line_words}
+use Rattle.of_shadowing.specs.{LineWords.no_line_words, LineWords.with_line_word, LineWordViews.view_line_words}
 use Rattle.of_shadowing.proofs.line_words.split_line.Given as goal
 
 abbrev pub decreases-loop-rest : goal.decreases-loop-rest

@@ -1,8 +1,7 @@
 use Rattle.std.proofs.Common.{◌∙◌, ◌+◌, ap, sym, ◌<◌, length, arith}
 use Rattle.of_text.specs.Lines.{lines_of}
 use Rattle.of_ovs_words.proofs.WordLemmas.{some_bytes, no_bytes}
-use Rattle.of_shadowing.specs.Listings.{listing_from, listing_of, with_listed}
-use Rattle.of_shadowing.specs.ListingViews.{view_listing}
+use Rattle.of_shadowing.specs.{Listings.listing_from, Listings.listing_of, Listings.with_listed, ListingViews.view_listing}
 use Rattle.of_shadowing.proofs.ListingLemmas.{listing_end, listing_step}
 use Rattle.of_shadowing.proofs.listing.read_listing.Goals as goal
 

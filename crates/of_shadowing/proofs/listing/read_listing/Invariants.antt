@@ -1,7 +1,6 @@
 use Rattle.std.proofs.Common.{◌≡◌, ◌+◌, ◌≤◌, length}
 use Rattle.of_text.specs.Lines.{lines_of}
-use Rattle.of_shadowing.specs.Listings.{listing_from, listing_of}
-use Rattle.of_shadowing.specs.ListingViews.{view_listing}
+use Rattle.of_shadowing.specs.{Listings.listing_from, Listings.listing_of, ListingViews.view_listing}
 use Rattle.of_shadowing.proofs.listing.read_listing.Given as goal
 
 abbrev pub decreases-loop-rest : goal.decreases-loop-rest

@@ -1,8 +1,5 @@
-use Rattle.std.proofs.Common.{◌∙◌, List, ℕ, ap}
-use Rattle.std.specs.Option.{option_copied}
-use Rattle.of_shadowing.specs.Conditions.{need_of_word}
-use Rattle.of_shadowing.specs.Listings.{why_of}
-use Rattle.of_shadowing.proofs.ListingLemmas.{no_fault, some_fault}
+use Rattle.std.{specs.Option.option_copied, proofs.Common.◌∙◌, proofs.Common.List, proofs.Common.ℕ, proofs.Common.ap}
+use Rattle.of_shadowing.{specs.Conditions.need_of_word, specs.Listings.why_of, proofs.ListingLemmas.no_fault, proofs.ListingLemmas.some_fault}
 use Rattle.of_shadowing.proofs.listing.unmet_fault.Goals as goal
 
 pub returns-in-None : goal.returns-in-None

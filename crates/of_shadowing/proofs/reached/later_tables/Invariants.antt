@@ -1,5 +1,4 @@
-use Rattle.std.proofs.Common.{◌≡◌, [], take}
-use Rattle.std.specs.List.{fold}
+use Rattle.std.{specs.List.fold, proofs.Common.◌≡◌, proofs.Common.[], proofs.Common.take}
 use Rattle.of_shadowing.specs.Reached.{with_table_of}
 use Rattle.of_shadowing.proofs.reached.later_tables.Given as goal
 

@@ -1,5 +1,4 @@
-use Rattle.std.proofs.Common.{◌≡◌, drop}
-use Rattle.std.specs.Prelude.{find}
+use Rattle.std.{specs.Prelude.find, proofs.Common.◌≡◌, proofs.Common.drop}
 use Rattle.of_shadowing.specs.Reached.{is_led_from_others}
 use Rattle.of_shadowing.proofs.reached.next_reached.Given as goal
 

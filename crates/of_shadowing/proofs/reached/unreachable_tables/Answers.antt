@@ -1,7 +1,7 @@
 use Rattle.std.proofs.Common.{◌≡◌, ◌∙◌, [], Some, None, true, sym}
 use Rattle.std.specs.Prelude.{find}
-use Rattle.of_shadowing.specs.Reached.{is_table_among, is_led_from_others, leaves_open}
 use Rattle.of_shadowing.proofs.ReachedLemmas.{begun, done, found, shorter, went_on}
+use Rattle.of_shadowing.specs.Reached.{is_table_among, is_led_from_others, leaves_open}
 use Rattle.of_shadowing.proofs.reached.unreachable_tables.Goals as goal
 
 pub loop-table-init : goal.loop-table-init

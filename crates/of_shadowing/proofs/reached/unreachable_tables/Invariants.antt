@@ -1,6 +1,5 @@
 use Rattle.std.proofs.Common.{◌≡◌, false, length}
-use Rattle.of_shadowing.specs.Reached.{leaves_open}
-use Rattle.of_shadowing.proofs.ReachedLemmas.{IsRest}
+use Rattle.of_shadowing.{specs.Reached.leaves_open, proofs.ReachedLemmas.IsRest}
 use Rattle.of_shadowing.proofs.reached.unreachable_tables.Given as goal
 
 abbrev pub decreases-loop-table : goal.decreases-loop-table

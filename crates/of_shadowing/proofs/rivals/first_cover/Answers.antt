@@ -1,11 +1,8 @@
 use Rattle.std.proofs.Common.{◌≡◌, ◌∙◌, [], false, sym, subst, take_all}
-use Rattle.std.specs.Prelude.{slice_get, slice_index_or}
-use Rattle.std.specs.List.{All, Contains}
-use Rattle.std.proofs.lemmas.List.Elements.{All-more}
+use Rattle.std.{specs.Prelude.slice_get, specs.Prelude.slice_index_or, specs.List.All, specs.List.Contains, proofs.lemmas.List.Elements.All-more}
 use Rattle.of_regions.specs.declared.rival.Rival.{Rival}
 use Rattle.of_check.proofs.OverlapLemmas.{any_default}
-use Rattle.of_shadowing.specs.Shadows.{is_covering_flow}
-use Rattle.of_shadowing.proofs.CoverLemmas.{none_covers, rival_covers}
+use Rattle.of_shadowing.{specs.Shadows.is_covering_flow, proofs.CoverLemmas.none_covers, proofs.CoverLemmas.rival_covers}
 use Rattle.of_shadowing.proofs.rivals.first_cover.Goals as goal
 
 pub returns-then-covers_own-clause-found : goal.returns-then-covers_own-clause-found

@@ -1,6 +1,4 @@
-use Rattle.std.proofs.Common.{◌≡◌, false, take}
-use Rattle.std.specs.Prelude.{slice_get}
-use Rattle.std.specs.List.{All}
+use Rattle.std.{specs.Prelude.slice_get, specs.List.All, proofs.Common.◌≡◌, proofs.Common.false, proofs.Common.take}
 use Rattle.of_regions.specs.declared.rival.Rival.{Rival}
 use Rattle.of_shadowing.specs.Shadows.{is_covering_flow}
 use Rattle.of_shadowing.proofs.rivals.first_cover.Given as goal

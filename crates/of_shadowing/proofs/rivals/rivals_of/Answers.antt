@@ -1,9 +1,7 @@
 use Rattle.std.proofs.Common.{◌≡◌, ◌∙◌, Some, ap, arith, sym}
-use Rattle.std.specs.Prelude.{slice_get}
-use Rattle.std.proofs.lemmas.Option.{slice_get-get_or}
-use Rattle.of_shadowing.proofs.RivalLemmas.{all_kept, one_kept, one_passed}
+use Rattle.std.{specs.Prelude.slice_get, proofs.lemmas.Option.slice_get-get_or}
+use Rattle.of_shadowing.proofs.{RivalLemmas.all_kept, RivalLemmas.one_kept, RivalLemmas.one_passed, rivals.rivals_of.Goals.in-Some+in_ok-push, rivals.rivals_of.Goals.in_default}
 use Rattle.of_shadowing.proofs.rivals.rivals_of.Goals as goal
-use Rattle.of_shadowing.proofs.rivals.rivals_of.Goals.{in-Some+in_ok-push, in_default}
 
 pub loop-at-preserved : goal.loop-at-preserved
 loop-at-preserved c =

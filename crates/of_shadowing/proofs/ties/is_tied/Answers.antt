@@ -1,8 +1,5 @@
-use Rattle.std.proofs.Common.{◌∙◌, sym, ap}
-use Rattle.std.specs.Prelude.{Option, slice_get}
-use Rattle.std.specs.List.{list_any}
-use Rattle.of_shadowing.specs.declared.listed_flow.ListedFlow.{ListedFlow}
-use Rattle.of_shadowing.specs.Shadows.{are_level_flows}
+use Rattle.std.{specs.Prelude.Option, specs.Prelude.slice_get, specs.List.list_any, proofs.Common.◌∙◌, proofs.Common.sym, proofs.Common.ap}
+use Rattle.of_shadowing.specs.{declared.listed_flow.ListedFlow.ListedFlow, Shadows.are_level_flows}
 use Rattle.of_shadowing.proofs.ties.is_tied.Goals as goal
 
 pub returns : goal.returns

@@ -1,6 +1,5 @@
 use Rattle.std.proofs.Common.{◌≡◌, ◌∙◌, ◌+◌, ap, List, Some, arith, refl, subst, sym}
-use Rattle.std.specs.Prelude.{slice_get}
-use Rattle.std.proofs.lemmas.Option.{slice_get-get_or}
+use Rattle.std.{specs.Prelude.slice_get, proofs.lemmas.Option.slice_get-get_or}
 use Rattle.of_check.specs.declared.finding.Finding.{Finding}
 use Rattle.of_shadowing.proofs.VerdictLemmas.{AreVerdictsBelow, all_done, no_verdicts, one_more}
 use Rattle.of_shadowing.proofs.verdicts.check_flows.Goals as goal

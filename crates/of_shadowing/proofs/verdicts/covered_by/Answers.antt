@@ -1,6 +1,5 @@
 use Rattle.std.proofs.Common.{◌≡◌, [], ◌∷◌, ap, ◌∙◌, rules}
-use Rattle.of_shadowing.specs.Shadows.{is_tie_of_flows}
-use Rattle.of_shadowing.proofs.CoverLemmas.{cover_takes}
+use Rattle.of_shadowing.{specs.Shadows.is_tie_of_flows, proofs.CoverLemmas.cover_takes}
 use Rattle.of_shadowing.proofs.verdicts.covered_by.Goals as goal
 
 pub returns : goal.returns

@@ -1,8 +1,7 @@
 use Rattle.std.proofs.Common.{◌∙◌, ap, inl, inr, subst}
 use Rattle.of_regions.specs.declared.searching.Found.TheVariants as found
 use Rattle.of_regions.specs.Searching.{Finds}
-use Rattle.of_shadowing.specs.Shadows.{is_tie_of_flows}
-use Rattle.of_shadowing.proofs.RivalLemmas.{free_wins, taking_never}
+use Rattle.of_shadowing.{specs.Shadows.is_tie_of_flows, proofs.RivalLemmas.free_wins, proofs.RivalLemmas.taking_never}
 use Rattle.of_shadowing.proofs.verdicts.searched.Goals as goal
 
 pub returns-in-Free : goal.returns-in-Free

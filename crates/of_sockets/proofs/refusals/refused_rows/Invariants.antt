@@ -1,6 +1,5 @@
 use Rattle.std.proofs.Common.{drop}
-use Rattle.of_sockets.specs.Refusals.{refused_rows_from}
-use Rattle.of_sockets.proofs.RefusalLemmas.{RefusedSoFar}
+use Rattle.of_sockets.{specs.Refusals.refused_rows_from, proofs.RefusalLemmas.RefusedSoFar}
 use Rattle.of_sockets.proofs.refusals.refused_rows.Given as goal
 
 abbrev pub invariant-loop-place : goal.invariant-loop-place

@@ -1,6 +1,5 @@
 use Rattle.std.proofs.Common.{ap, arith, sym, ◌∙◌}
-use Rattle.of_text.specs.Lines.{is_passed}
-use Rattle.of_text.proofs.LineLemmas.{some_bytes, no_bytes}
+use Rattle.of_text.{specs.Lines.is_passed, proofs.LineLemmas.some_bytes, proofs.LineLemmas.no_bytes}
 use Rattle.of_sockets.proofs.RefusalLemmas.{number_found, number_passed, numbers_all}
 use Rattle.of_sockets.proofs.refusals.row_numbers.Goals as goal
 

@@ -1,10 +1,7 @@
 use Rattle.std.proofs.Common.{List, length, ap, sym, ◌∙◌, arith}
 use Rattle.std.specs.Prelude.{filter}
-use Rattle.of_table.specs.declared.entry.Entry.{Entry}
-use Rattle.of_table.specs.Entries.{flows_of}
-use Rattle.of_table.specs.Selecting.{selects}
-use Rattle.of_statistics.specs.Adding.{plus_all}
-use Rattle.of_statistics.proofs.Sums.{entry_added, plus_none}
+use Rattle.of_table.specs.{declared.entry.Entry.Entry, Entries.flows_of, Selecting.selects}
+use Rattle.of_statistics.{specs.Adding.plus_all, proofs.Sums.entry_added, proofs.Sums.plus_none}
 use Rattle.of_statistics.proofs.aggregate.add_entries.Goals as goal
 
 pub loop-entry-preserved : goal.loop-entry-preserved

@@ -1,7 +1,5 @@
-use Rattle.std.proofs.Common.{◌≡◌, ◌≤◌, ◌+◌, length}
-use Rattle.std.specs.Prelude.{filter}
-use Rattle.of_table.specs.Entries.{flows_of}
-use Rattle.of_table.specs.Selecting.{selects}
+use Rattle.std.{specs.Prelude.filter, proofs.Common.◌≡◌, proofs.Common.◌≤◌, proofs.Common.◌+◌, proofs.Common.length}
+use Rattle.of_table.specs.{Entries.flows_of, Selecting.selects}
 use Rattle.of_statistics.specs.Adding.{plus_all}
 use Rattle.of_statistics.proofs.aggregate.add_entries.Given as goal
 

@@ -1,9 +1,6 @@
 use Rattle.std.proofs.Common.{◌≡◌, false, List, [], length, refl, ap, sym, ◌∙◌, arith}
-use Rattle.of_table.specs.declared.entry.Entry.{Entry}
-use Rattle.of_table.specs.Tables.{is_in, table_at, tables_of}
-use Rattle.of_statistics.specs.Adding.{asked_of, plus_all}
-use Rattle.of_statistics.proofs.Sums.{plus_none}
-use Rattle.of_statistics.proofs.Walks.{entries_count}
+use Rattle.of_table.specs.{declared.entry.Entry.Entry, Tables.is_in, Tables.table_at, Tables.tables_of}
+use Rattle.of_statistics.{specs.Adding.asked_of, specs.Adding.plus_all, proofs.Sums.plus_none, proofs.Walks.entries_count}
 use Rattle.of_statistics.proofs.aggregate.add_table.Goals as goal
 
 pub add_entries-requires : goal.add_entries-requires

@@ -1,6 +1,5 @@
 use Rattle.std.proofs.Common.{arith}
-use Rattle.of_statistics.specs.Flows.{aggregate}
-use Rattle.of_statistics.proofs.Sizes.{room, length_aggregate}
+use Rattle.of_statistics.{specs.Flows.aggregate, proofs.Sizes.room, proofs.Sizes.length_aggregate}
 use Rattle.of_statistics.proofs.aggregate.aggregate_reply.Goals as goal
 
 pub sealed-requires-clause-short : goal.sealed-requires-clause-short

@@ -1,9 +1,7 @@
 use Rattle.std.proofs.Common.{◌<◌, ◌≤◌, length, sym, arith}
 use Rattle.std.proofs.lemmas.List.{length-map, take_all}
-use Rattle.of_table.specs.Entries.{table_of}
-use Rattle.of_table.specs.Tables.{tables_of}
-use Rattle.of_statistics.specs.Adding.{nothing}
-use Rattle.of_statistics.proofs.Sums.{plus_none, table_added, totals_are}
+use Rattle.of_table.specs.{Entries.table_of, Tables.tables_of}
+use Rattle.of_statistics.{specs.Adding.nothing, proofs.Sums.plus_none, proofs.Sums.table_added, proofs.Sums.totals_are}
 use Rattle.of_statistics.proofs.aggregate.totals_in.Goals as goal
 
 pub loop-table-init : goal.loop-table-init

@@ -1,7 +1,6 @@
 use Rattle.std.proofs.Common.{◌≡◌, ◌≤◌, ◌*◌, take}
 use Rattle.of_table.specs.Tables.{tables_of}
-use Rattle.of_statistics.specs.Flows.{from_tables}
-use Rattle.of_statistics.specs.Adding.{asked_of, nothing, plus_all}
+use Rattle.of_statistics.specs.{Flows.from_tables, Adding.asked_of, Adding.nothing, Adding.plus_all}
 use Rattle.of_statistics.proofs.aggregate.totals_in.Given as goal
 
 abbrev pub invariant-loop-table : goal.invariant-loop-table

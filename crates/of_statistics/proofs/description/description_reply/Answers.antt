@@ -1,6 +1,5 @@
 use Rattle.std.proofs.Common.{arith}
-use Rattle.of_statistics.specs.Descriptions.{description}
-use Rattle.of_statistics.proofs.Sizes.{room, length_description}
+use Rattle.of_statistics.{specs.Descriptions.description, proofs.Sizes.room, proofs.Sizes.length_description}
 use Rattle.of_statistics.proofs.description.description_reply.Goals as goal
 
 pub sealed-requires-clause-short : goal.sealed-requires-clause-short

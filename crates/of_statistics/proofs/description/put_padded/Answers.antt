@@ -1,6 +1,4 @@
-use Rattle.std.proofs.Common.{◌-◌, length, arith}
-use Rattle.std.specs.Prelude.{replicate}
-use Rattle.std.proofs.lemmas.List.{take-replicate}
+use Rattle.std.{specs.Prelude.replicate, proofs.Common.◌-◌, proofs.Common.length, proofs.Common.arith, proofs.lemmas.List.take-replicate}
 use Rattle.of_statistics.proofs.Parts.{put_last, two_parts}
 use Rattle.of_statistics.proofs.description.put_padded.Goals as goal
 

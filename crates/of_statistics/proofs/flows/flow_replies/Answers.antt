@@ -1,10 +1,6 @@
-use Rattle.std.proofs.Common.{arith}
-use Rattle.std.proofs.lemmas.List.{length-map}
-use Rattle.of_table.specs.Entries.{table_of}
-use Rattle.of_table.specs.Tables.{tables_of}
-use Rattle.of_statistics.specs.Replies.{with_rows}
-use Rattle.of_statistics.specs.Flows.{flow_row, listed_in}
-use Rattle.of_statistics.proofs.Walks.{rows_of_more}
+use Rattle.std.proofs.{Common.arith, lemmas.List.length-map}
+use Rattle.of_table.specs.{Entries.table_of, Tables.tables_of}
+use Rattle.of_statistics.{specs.Replies.with_rows, specs.Flows.flow_row, specs.Flows.listed_in, proofs.Walks.rows_of_more}
 use Rattle.of_statistics.proofs.flows.flow_replies.Goals as goal
 
 pub loop-table-init : goal.loop-table-init

@@ -1,7 +1,6 @@
 use Rattle.std.proofs.Common.{◌≡◌, map, take}
 use Rattle.of_table.specs.Tables.{tables_of}
-use Rattle.of_statistics.specs.Replies.{empty_draft, with_rows}
-use Rattle.of_statistics.specs.Flows.{flow_row, from_tables, listed_in}
+use Rattle.of_statistics.specs.{Replies.empty_draft, Replies.with_rows, Flows.flow_row, Flows.from_tables, Flows.listed_in}
 use Rattle.of_statistics.proofs.flows.flow_replies.Given as goal
 
 abbrev pub invariant-loop-table : goal.invariant-loop-table

@@ -1,9 +1,6 @@
 use Rattle.std.proofs.Common.{sym, ap, ◌∙◌, List}
-use Rattle.of_table.specs.declared.entry.Entry.{Entry}
-use Rattle.of_table.specs.Entries.{flows_of}
-use Rattle.of_statistics.specs.Replies.{with_rows}
-use Rattle.of_statistics.specs.Flows.{rows_of_entries}
-use Rattle.of_statistics.proofs.Walks.{entry_put}
+use Rattle.of_table.specs.{declared.entry.Entry.Entry, Entries.flows_of}
+use Rattle.of_statistics.{specs.Replies.with_rows, specs.Flows.rows_of_entries, proofs.Walks.entry_put}
 use Rattle.of_statistics.proofs.flows.put_entries.Goals as goal
 
 pub loop-entry-preserved : goal.loop-entry-preserved

@@ -1,7 +1,6 @@
 use Rattle.std.proofs.Common.{◌≡◌}
 use Rattle.of_table.specs.Entries.{flows_of}
-use Rattle.of_statistics.specs.Replies.{with_rows}
-use Rattle.of_statistics.specs.Flows.{rows_of_entries}
+use Rattle.of_statistics.specs.{Replies.with_rows, Flows.rows_of_entries}
 use Rattle.of_statistics.proofs.flows.put_entries.Given as goal
 
 -- the rows that are put and those that are left are all

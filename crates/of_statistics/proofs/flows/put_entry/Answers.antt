@@ -1,8 +1,6 @@
 use Rattle.std.proofs.Common.{◌≡◌, true, false, sym, ◌∙◌, refl}
-use Rattle.of_table.specs.Entries.{entry_of}
-use Rattle.of_table.specs.Selecting.{selects}
-use Rattle.of_statistics.specs.Flows.{rows_of_one}
-use Rattle.of_statistics.proofs.Cutting.{row_put, none_put}
+use Rattle.of_table.specs.{Entries.entry_of, Selecting.selects}
+use Rattle.of_statistics.{specs.Flows.rows_of_one, proofs.Cutting.row_put, proofs.Cutting.none_put}
 use Rattle.of_statistics.proofs.flows.put_entry.Goals as goal
 
 pub returns-in_ok-put_row : goal.returns-in_ok-put_row

@@ -1,7 +1,6 @@
 use Rattle.std.proofs.Common.{◌≡◌, false, sym, ◌∙◌, refl, map}
 use Rattle.of_table.specs.Tables.{is_in, table_at, tables_of}
-use Rattle.of_statistics.specs.Flows.{flow_row, listed_in}
-use Rattle.of_statistics.proofs.Cutting.{none_put}
+use Rattle.of_statistics.{specs.Flows.flow_row, specs.Flows.listed_in, proofs.Cutting.none_put}
 use Rattle.of_statistics.proofs.flows.put_table.Goals as goal
 
 pub returns-else-is_in : goal.returns-else-is_in

@@ -1,6 +1,5 @@
 use Rattle.std.proofs.Common.{rules}
-use Rattle.of_statistics.specs.Durations.{duration}
-use Rattle.of_statistics.specs.Flows.{flow_times}
+use Rattle.of_statistics.specs.{Durations.duration, Flows.flow_times}
 use Rattle.of_messages.proofs.Appended.{six_or}
 use Rattle.of_statistics.proofs.flows.put_times.Goals as goal
 

@@ -1,6 +1,5 @@
 use Rattle.std.proofs.Common.{arith}
-use Rattle.of_statistics.specs.Groups.{group_features_body}
-use Rattle.of_statistics.proofs.Sizes.{room, length_features}
+use Rattle.of_statistics.{specs.Groups.group_features_body, proofs.Sizes.room, proofs.Sizes.length_features}
 use Rattle.of_statistics.proofs.groups.group_features_reply.Goals as goal
 
 pub sealed-requires-clause-short : goal.sealed-requires-clause-short

@@ -1,9 +1,7 @@
 use Rattle.std.proofs.Common.{◌≡◌, ℕ, [], ◌∷◌, map, ap, sym, ◌∙◌}
-use Rattle.std.specs.Prelude.{Option}
-use Rattle.std.specs.Option.{option_to_list}
+use Rattle.std.specs.{Prelude.Option, Option.option_to_list}
 use Rattle.of_table.specs.Tables.{tables_of}
-use Rattle.of_statistics.specs.Groups.{asked_groups, group_statistics_rows, row_among}
-use Rattle.of_statistics.proofs.Cutting.{row_put, none_put}
+use Rattle.of_statistics.{specs.Groups.asked_groups, specs.Groups.group_statistics_rows, specs.Groups.row_among, proofs.Cutting.row_put, proofs.Cutting.none_put}
 use Rattle.of_statistics.proofs.groups.put_asked.Goals as goal
 
 pub returns-in-Some-group : goal.returns-in-Some-group

@@ -1,5 +1,4 @@
-use Rattle.of_statistics.specs.Groups.{bucket_row}
-use Rattle.of_statistics.proofs.Parts.{two_parts}
+use Rattle.of_statistics.{specs.Groups.bucket_row, proofs.Parts.two_parts}
 use Rattle.of_statistics.proofs.groups.put_bucket.Goals as goal
 
 pub returns : goal.returns

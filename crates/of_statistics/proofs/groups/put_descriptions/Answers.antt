@@ -1,6 +1,5 @@
 use Rattle.std.proofs.Common.{arith}
-use Rattle.of_statistics.specs.Groups.{group_description}
-use Rattle.of_statistics.proofs.Cutting.{row_more, no_rows}
+use Rattle.of_statistics.{specs.Groups.group_description, proofs.Cutting.row_more, proofs.Cutting.no_rows}
 use Rattle.of_statistics.proofs.groups.put_descriptions.Goals as goal
 
 pub loop-group-init : goal.loop-group-init

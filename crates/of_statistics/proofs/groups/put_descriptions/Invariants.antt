@@ -1,6 +1,5 @@
 use Rattle.std.proofs.Common.{◌≡◌, map, take}
-use Rattle.of_statistics.specs.Replies.{with_rows}
-use Rattle.of_statistics.specs.Groups.{group_description}
+use Rattle.of_statistics.specs.{Replies.with_rows, Groups.group_description}
 use Rattle.of_statistics.proofs.groups.put_descriptions.Given as goal
 
 abbrev pub invariant-loop-group : goal.invariant-loop-group

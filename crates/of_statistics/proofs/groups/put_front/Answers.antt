@@ -1,5 +1,4 @@
-use Rattle.of_statistics.specs.Groups.{group_fixed_part}
-use Rattle.of_statistics.proofs.Parts.{seven_parts}
+use Rattle.of_statistics.{specs.Groups.group_fixed_part, proofs.Parts.seven_parts}
 use Rattle.of_statistics.proofs.groups.put_front.Goals as goal
 
 pub returns : goal.returns

@@ -1,8 +1,7 @@
 use Rattle.std.proofs.Common.{◌<◌, length, List, ap, arith}
 use Rattle.of_groups.specs.declared.group.Group.{Group}
 use Rattle.of_table.specs.Tables.{tables_of}
-use Rattle.of_statistics.specs.Groups.{row_among}
-use Rattle.of_statistics.proofs.Cutting.{row_more, no_rows}
+use Rattle.of_statistics.{specs.Groups.row_among, proofs.Cutting.row_more, proofs.Cutting.no_rows}
 use Rattle.of_statistics.proofs.groups.put_groups.Goals as goal
 
 pub loop-group-init : goal.loop-group-init

@@ -1,7 +1,6 @@
 use Rattle.std.proofs.Common.{◌≡◌, map, take}
 use Rattle.of_table.specs.Tables.{tables_of}
-use Rattle.of_statistics.specs.Replies.{with_rows}
-use Rattle.of_statistics.specs.Groups.{row_among}
+use Rattle.of_statistics.specs.{Replies.with_rows, Groups.row_among}
 use Rattle.of_statistics.proofs.groups.put_groups.Given as goal
 
 abbrev pub invariant-loop-group : goal.invariant-loop-group

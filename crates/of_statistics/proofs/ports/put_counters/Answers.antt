@@ -1,5 +1,4 @@
-use Rattle.of_statistics.specs.Ports.{port_counts}
-use Rattle.of_statistics.proofs.Parts.{seven_parts}
+use Rattle.of_statistics.{specs.Ports.port_counts, proofs.Parts.seven_parts}
 use Rattle.of_statistics.proofs.ports.put_counters.Goals as goal
 
 pub returns : goal.returns

@@ -1,6 +1,5 @@
 use Rattle.of_messages.proofs.Appended.{five_or}
-use Rattle.of_statistics.specs.Durations.{duration}
-use Rattle.of_statistics.specs.Ports.{port_counts, port_row}
+use Rattle.of_statistics.specs.{Durations.duration, Ports.port_counts, Ports.port_row}
 use Rattle.of_statistics.proofs.ports.put_stats.Goals as goal
 
 pub returns : goal.returns

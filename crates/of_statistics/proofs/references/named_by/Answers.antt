@@ -1,9 +1,6 @@
-use Rattle.std.proofs.Common.{rules, refl, List, ◌∙◌}
-use Rattle.std.specs.Prelude.{Some}
+use Rattle.std.{specs.Prelude.Some, proofs.Common.rules, proofs.Common.refl, proofs.Common.List, proofs.Common.◌∙◌}
 use Rattle.std.proofs.lemmas.Iterator.Consumers.{YieldsList-from_filter, YieldsList-from_first, count_from_yields_List}
-use Rattle.of_table.specs.declared.entry.Entry.{Entry}
-use Rattle.of_table.specs.Entries.{entry_of}
-use Rattle.of_table.specs.Selecting.{names_group}
+use Rattle.of_table.specs.{declared.entry.Entry.Entry, Entries.entry_of, Selecting.names_group}
 use Rattle.of_statistics.proofs.Counts.{count_of_filtered}
 use Rattle.of_statistics.proofs.references.named_by.Goals as goal
 

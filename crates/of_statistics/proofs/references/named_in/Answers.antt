@@ -1,11 +1,6 @@
-use Rattle.std.proofs.Common.{◌≡◌, ◌<◌, length, arith}
-use Rattle.std.specs.Prelude.{Some}
-use Rattle.std.specs.List.{count_by}
-use Rattle.std.proofs.lemmas.List.{length-map}
+use Rattle.std.{specs.Prelude.Some, specs.List.count_by, proofs.Common.◌≡◌, proofs.Common.◌<◌, proofs.Common.length, proofs.Common.arith, proofs.lemmas.List.length-map}
 use Rattle.std.proofs.lemmas.List.Sums.{count_by-le-length}
-use Rattle.of_table.specs.Entries.{table_of}
-use Rattle.of_table.specs.Selecting.{names_group}
-use Rattle.of_table.specs.Tables.{table_at, tables_of}
+use Rattle.of_table.specs.{Entries.table_of, Selecting.names_group, Tables.table_at, Tables.tables_of}
 use Rattle.of_statistics.proofs.Counts.{count_in, count_more}
 use Rattle.of_statistics.proofs.references.named_in.Goals as goal
 

@@ -1,8 +1,5 @@
-use Rattle.std.proofs.Common.{◌≡◌, ◌≤◌, ◌*◌, take}
-use Rattle.std.specs.Prelude.{Some}
-use Rattle.std.specs.List.{count_by}
-use Rattle.of_table.specs.Selecting.{names_group}
-use Rattle.of_table.specs.Tables.{tables_of}
+use Rattle.std.{specs.Prelude.Some, specs.List.count_by, proofs.Common.◌≡◌, proofs.Common.◌≤◌, proofs.Common.◌*◌, proofs.Common.take}
+use Rattle.of_table.specs.{Selecting.names_group, Tables.tables_of}
 use Rattle.of_statistics.specs.Flows.{from_tables}
 use Rattle.of_statistics.proofs.references.named_in.Given as goal
 

@@ -1,10 +1,7 @@
 use Rattle.std.proofs.Common.{◌≡◌, length, ap, sym, ◌∙◌, arith}
 use Rattle.of_messages.proofs.Appended.{four_parts}
-use Rattle.of_table.specs.Table.{Table}
-use Rattle.of_table.specs.Tables.{table_at, tables_of}
-use Rattle.of_statistics.specs.Flows.{table_row}
-use Rattle.of_statistics.proofs.Counts.{length_in}
-use Rattle.of_statistics.proofs.Walks.{table_at_is}
+use Rattle.of_table.specs.{Table.Table, Tables.table_at, Tables.tables_of}
+use Rattle.of_statistics.{specs.Flows.table_row, proofs.Counts.length_in, proofs.Walks.table_at_is}
 use Rattle.of_statistics.proofs.tables.put_table.Goals as goal
 
 pub overflow_cast-count_of : goal.overflow_cast-count_of

@@ -1,10 +1,7 @@
 use Rattle.std.proofs.Common.{◌<◌, length, take, replicate, refl, arith}
 use Rattle.std.proofs.lemmas.List.{length-map, length-take}
-use Rattle.of_table.specs.Entries.{table_of}
-use Rattle.of_table.specs.Tables.{tables_of}
-use Rattle.of_statistics.specs.Flows.{from_tables, table_row}
-use Rattle.of_statistics.proofs.Sizes.{room, length_tables}
-use Rattle.of_statistics.proofs.Walks.{bytes_of_more}
+use Rattle.of_table.specs.{Entries.table_of, Tables.tables_of}
+use Rattle.of_statistics.{specs.Flows.from_tables, specs.Flows.table_row, proofs.Sizes.room, proofs.Sizes.length_tables, proofs.Walks.bytes_of_more}
 use Rattle.of_statistics.proofs.tables.table_reply.Goals as goal
 
 pub loop-table-preserved : goal.loop-table-preserved

@@ -1,5 +1,4 @@
-use Rattle.std.proofs.Common.{◌≡◌, ◌++◌, take}
-use Rattle.std.specs.Prelude.{replicate}
+use Rattle.std.{specs.Prelude.replicate, proofs.Common.◌≡◌, proofs.Common.◌++◌, proofs.Common.take}
 use Rattle.of_table.specs.Tables.{tables_of}
 use Rattle.of_statistics.specs.Flows.{from_tables, table_row}
 use Rattle.of_statistics.proofs.tables.table_reply.Given as goal

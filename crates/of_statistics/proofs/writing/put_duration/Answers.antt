@@ -1,5 +1,4 @@
-use Rattle.of_statistics.specs.Durations.{duration}
-use Rattle.of_statistics.proofs.Parts.{two_parts}
+use Rattle.of_statistics.{specs.Durations.duration, proofs.Parts.two_parts}
 use Rattle.of_statistics.proofs.writing.put_duration.Goals as goal
 
 pub returns : goal.returns

@@ -1,6 +1,4 @@
-use Rattle.of_switch.specs.Steps.{fed}
-use Rattle.of_switch.proofs.Draining.{drained_ends}
-use Rattle.of_switch.proofs.InTurn.{chunk_in_turn}
+use Rattle.of_switch.{specs.Steps.fed, proofs.Draining.drained_ends, proofs.InTurn.chunk_in_turn}
 use Rattle.of_switch.proofs.laws.chunk_handles_its_messages.Goals as goal
 
 pub returns-clause-in_turn : goal.returns-clause-in_turn

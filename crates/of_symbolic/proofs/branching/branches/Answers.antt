@@ -1,15 +1,8 @@
 use Rattle.std.proofs.Common.{◌≡◌, ◌≤◌, ℕ, List, length, Option, None, Some, sym, subst, arith}
-use Rattle.std.specs.Prelude.{IfSome}
-use Rattle.std.specs.Global.{Vec}
-use Rattle.of_symbolic.specs.declared.overlay.Overlay.{Overlay}
-use Rattle.of_symbolic.specs.declared.pulled_entry.PulledEntry.{PulledEntry}
-use Rattle.of_symbolic.specs.Branches.{flows_listed}
-use Rattle.of_symbolic.specs.Branching.{AddsHit, ArePulledEntries}
+use Rattle.std.specs.{Prelude.IfSome, Global.Vec}
+use Rattle.of_symbolic.specs.{declared.overlay.Overlay.Overlay, declared.pulled_entry.PulledEntry.PulledEntry, Branches.flows_listed, Branching.AddsHit, Branching.ArePulledEntries}
+use Rattle.of_symbolic.proofs.{BranchLemmas.branches_done, BranchLemmas.branches_more, HitLemmas.branches_are, NearLemmas.near_branches, NearLemmas.near_kept, PulledLemmas.pulled_kept}
 use Rattle.of_table.specs.Table.{FlowEntry}
-use Rattle.of_symbolic.proofs.BranchLemmas.{branches_done, branches_more}
-use Rattle.of_symbolic.proofs.HitLemmas.{branches_are}
-use Rattle.of_symbolic.proofs.NearLemmas.{near_branches, near_kept}
-use Rattle.of_symbolic.proofs.PulledLemmas.{pulled_kept}
 use Rattle.of_symbolic.proofs.branching.branches.Goals as goal
 
 -- what was pulled

@@ -1,11 +1,8 @@
 use Rattle.std.proofs.Common.{◌≡◌, Option, Some, sym, subst}
-use Rattle.std.specs.Prelude.{slice_get, IfSome}
-use Rattle.std.specs.Global.{Vec}
-use Rattle.std.proofs.lemmas.Result.{on_ok_weaker}
+use Rattle.std.{specs.Prelude.slice_get, specs.Prelude.IfSome, specs.Global.Vec, proofs.lemmas.Result.on_ok_weaker}
 use Rattle.of_oxm.specs.declared.match_field.MatchField.{MatchField}
 use Rattle.of_regions.specs.Conditions.{AreConditions}
-use Rattle.of_symbolic.proofs.BranchLemmas.{hit_added, never_added}
-use Rattle.of_symbolic.proofs.PartLemmas.{at_index}
+use Rattle.of_symbolic.proofs.{BranchLemmas.hit_added, BranchLemmas.never_added, PartLemmas.at_index}
 use Rattle.of_symbolic.proofs.branching.push_hit.Goals as goal
 
 pub push_branch-requires-clause-own : goal.push_branch-requires-clause-own

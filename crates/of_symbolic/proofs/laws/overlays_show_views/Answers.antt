@@ -1,6 +1,4 @@
-use Rattle.of_symbolic.proofs.Overlaying.{fields_shown}
-use Rattle.of_symbolic.proofs.Popping.{only_pops, popped_back}
-use Rattle.of_symbolic.proofs.Showing.{overlay_shows}
+use Rattle.of_symbolic.proofs.{Overlaying.fields_shown, Popping.only_pops, Popping.popped_back, Showing.overlay_shows}
 use Rattle.of_symbolic.proofs.laws.overlays_show_views.Goals as goal
 
 pub returns-clause-view : goal.returns-clause-view

@@ -1,5 +1,4 @@
-use Rattle.of_symbolic.proofs.Vids.{frame_small}
-use Rattle.of_symbolic.proofs.Rewriting.{stays_frame, views_follow_all}
+use Rattle.of_symbolic.proofs.{Vids.frame_small, Rewriting.stays_frame, Rewriting.views_follow_all}
 use Rattle.of_symbolic.proofs.laws.rewritten_frames_have_views.Goals as goal
 
 pub returns-clause-view : goal.returns-clause-view

@@ -1,6 +1,5 @@
 use Rattle.std.proofs.Common.{◌≡◌, ◌∙◌, false, refl, sym, take, take_all, true}
-use Rattle.of_symbolic.specs.Parts.{IsListed}
-use Rattle.of_symbolic.proofs.PartLemmas.{contains_index, one_unlisted}
+use Rattle.of_symbolic.{specs.Parts.IsListed, proofs.PartLemmas.contains_index, proofs.PartLemmas.one_unlisted}
 use Rattle.of_symbolic.proofs.part.is_listed.Goals as goal
 
 pub returns-then-same_fields : goal.returns-then-same_fields

@@ -1,6 +1,5 @@
-use Rattle.of_symbolic.proofs.PartLemmas.{one_dropped, one_left}
+use Rattle.of_symbolic.proofs.{PartLemmas.one_dropped, PartLemmas.one_left, part.left_regions.Goals.then-not-is_whole_in+in_ok-push, part.left_regions.Goals.else-not-is_whole_in}
 use Rattle.of_symbolic.proofs.part.left_regions.Goals as goal
-use Rattle.of_symbolic.proofs.part.left_regions.Goals.{then-not-is_whole_in+in_ok-push, else-not-is_whole_in}
 
 pub loop-region-preserved : goal.loop-region-preserved
 loop-region-preserved c =

@@ -1,12 +1,8 @@
 use Rattle.std.proofs.Common.{◌≡◌, ◌+◌, ℕ, true, List, Bor, drop, Option, subst}
 use Rattle.std.specs.Prelude.{IfNone, IfSome, map}
-use Rattle.of_table.specs.declared.entry.Entry.{Entry}
-use Rattle.of_table.specs.Entries.{entry_of}
-use Rattle.of_symbolic.specs.declared.pulled_entry.PulledEntry.{PulledEntry}
-use Rattle.of_symbolic.specs.Branches.{flows_listed}
-use Rattle.of_symbolic.specs.Branching.{IsPulledEntry}
-use Rattle.of_symbolic.specs.Pulling.{is_unknown_in}
+use Rattle.of_table.specs.{declared.entry.Entry.Entry, Entries.entry_of}
 use Rattle.of_symbolic.proofs.PulledLemmas.{listed_at, listed_end, one_unknown, pulled_done, pulled_more}
+use Rattle.of_symbolic.specs.{declared.pulled_entry.PulledEntry.PulledEntry, Branches.flows_listed, Branching.IsPulledEntry, Pulling.is_unknown_in}
 use Rattle.of_symbolic.proofs.pulled_entry.pulled_entries.Goals as goal
 
 -- the entries from an index on

@@ -1,8 +1,6 @@
-use Rattle.std.proofs.Common.{Bor, drop}
-use Rattle.std.specs.Prelude.{map}
+use Rattle.std.{specs.Prelude.map, proofs.Common.Bor, proofs.Common.drop}
 use Rattle.of_table.specs.declared.entry.Entry.{Entry}
-use Rattle.of_symbolic.specs.Branches.{flows_listed}
-use Rattle.of_symbolic.proofs.PulledLemmas.{IsPulledSoFar}
+use Rattle.of_symbolic.{specs.Branches.flows_listed, proofs.PulledLemmas.IsPulledSoFar}
 use Rattle.of_symbolic.proofs.pulled_entry.pulled_entries.Given as goal
 
 abbrev pub invariant-loop-entry : goal.invariant-loop-entry

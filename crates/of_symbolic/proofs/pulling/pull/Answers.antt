@@ -1,10 +1,9 @@
 use Rattle.std.proofs.Common.{◌≡◌, get_or, take, ap, sym, ◌∙◌, List, None}
 use Rattle.of_layers.specs.declared.field.Field.TheVariants.{InPort}
-use Rattle.of_oxm.specs.declared.match_field.MatchField.{MatchField}
-use Rattle.of_oxm.specs.NormalForm.{IsKept}
+use Rattle.of_oxm.specs.{declared.match_field.MatchField.MatchField, NormalForm.IsKept}
 use Rattle.of_symbolic.proofs.SoFar.{all_same, all_taken, all_unknown, field_more, kept_at, never_at, next_so_far, nothing_more, open_more}
-use Rattle.of_symbolic.proofs.pulling.pull.Goals as goal
 use Rattle.of_symbolic.proofs.pulling.pull.Goals.{in-Open, in-Nothing, in-Asks+in_ok-push-in-Asks}
+use Rattle.of_symbolic.proofs.pulling.pull.Goals as goal
 
 -- what is read past the end of a list
 none : MatchField

@@ -1,8 +1,5 @@
 use Rattle.std.proofs.Common.{List, subst}
-use Rattle.of_symbolic_run.specs.declared.dividing.Case.{Case}
-use Rattle.of_symbolic_run.specs.Decrementing.{AddsExpired}
-use Rattle.of_symbolic_run.specs.TimesToLive.{expires}
-use Rattle.of_symbolic_run.proofs.DecrementLemmas.{divided, divided_next}
+use Rattle.of_symbolic_run.{specs.declared.dividing.Case.Case, specs.Decrementing.AddsExpired, specs.TimesToLive.expires, proofs.DecrementLemmas.divided, proofs.DecrementLemmas.divided_next}
 use Rattle.of_symbolic_run.proofs.decrementing.divide_by_ttl.Goals as goal
 
 pub returns-clause-cases : goal.returns-clause-cases

@@ -1,6 +1,5 @@
 use Rattle.std.proofs.Common.{subst, inr}
-use Rattle.of_symbolic_run.specs.FrameSets.{AreFramesOrNone}
-use Rattle.of_symbolic_run.specs.TimesToLive.{expires}
+use Rattle.of_symbolic_run.specs.{FrameSets.AreFramesOrNone, TimesToLive.expires}
 use Rattle.of_symbolic_run.proofs.decrementing.push_expired.Goals as goal
 
 pub returns-in_ok-push-in-Some : goal.returns-in_ok-push-in-Some

@@ -1,16 +1,9 @@
 use Rattle.std.proofs.Common.{◌≡◌, ◌∙◌, Bool, List, Option, ap, arith, length, subst}
-use Rattle.std.specs.Borrow.{Bor}
-use Rattle.std.specs.Prelude.{IfNone}
-use Rattle.std.specs.Global.{Vec}
-use Rattle.std.proofs.lemmas.List.{length-map}
-use Rattle.of_table.specs.declared.entry.Entry.{Entry}
-use Rattle.of_table.specs.Entries.{flows_of}
-use Rattle.of_table.specs.Table.{FlowEntry}
-use Rattle.of_symbolic.specs.declared.branching.Branch.{Branch}
-use Rattle.of_symbolic.specs.Branches.{AreBranches, AsksUnknown, flows_listed}
-use Rattle.of_symbolic_run.specs.Cases.{AreCasesOf}
+use Rattle.std.{specs.Borrow.Bor, specs.Prelude.IfNone, specs.Global.Vec, proofs.lemmas.List.length-map}
+use Rattle.of_table.specs.{declared.entry.Entry.Entry, Entries.flows_of, Table.FlowEntry}
+use Rattle.of_symbolic.specs.{declared.branching.Branch.Branch, Branches.AreBranches, Branches.AsksUnknown, Branches.flows_listed}
 use Rattle.of_symbolic_run.proofs.CaseLemmas.{cases_are, cases_next, key_is, own_branches, unknown_first}
-use Rattle.of_symbolic_run.proofs.ListedLemmas.{are_listed, kept_are, was_made}
+use Rattle.of_symbolic_run.{specs.Cases.AreCasesOf, proofs.ListedLemmas.are_listed, proofs.ListedLemmas.kept_are, proofs.ListedLemmas.was_made}
 use Rattle.of_symbolic_run.proofs.dividing.cases_by_entry.Goals as goal
 
 pub returns-in-None-clause-none : goal.returns-in-None-clause-none

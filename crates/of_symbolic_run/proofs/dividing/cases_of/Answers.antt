@@ -1,10 +1,6 @@
-use Rattle.std.proofs.Common.{List, [], sym, subst}
-use Rattle.std.specs.List.{Contains}
-use Rattle.std.specs.Vec.Iter.{into_iter_items}
-use Rattle.of_symbolic.specs.declared.branching.Branch.{Branch}
-use Rattle.of_symbolic.specs.Branches.{flows_listed}
-use Rattle.of_symbolic_run.specs.Cases.{AreCasesOf, IsBranchOf}
-use Rattle.of_symbolic_run.proofs.CaseLemmas.{left_branches, one_case}
+use Rattle.std.{specs.List.Contains, specs.Vec.Iter.into_iter_items, proofs.Common.List, proofs.Common.[], proofs.Common.sym, proofs.Common.subst}
+use Rattle.of_symbolic.specs.{declared.branching.Branch.Branch, Branches.flows_listed}
+use Rattle.of_symbolic_run.{specs.Cases.AreCasesOf, specs.Cases.IsBranchOf, proofs.CaseLemmas.left_branches, proofs.CaseLemmas.one_case}
 use Rattle.of_symbolic_run.proofs.dividing.cases_of.Goals as goal
 
 pub loop-branch-init : goal.loop-branch-init

@@ -1,7 +1,5 @@
-use Rattle.std.specs.List.{Contains}
-use Rattle.std.specs.Vec.Iter.{into_iter_items}
-use Rattle.of_symbolic.specs.declared.branching.Branch.{Branch}
-use Rattle.of_symbolic.specs.Branches.{flows_listed}
+use Rattle.std.specs.{List.Contains, Vec.Iter.into_iter_items}
+use Rattle.of_symbolic.specs.{declared.branching.Branch.Branch, Branches.flows_listed}
 use Rattle.of_symbolic_run.specs.Cases.{AreCasesOf, IsBranchOf}
 use Rattle.of_symbolic_run.proofs.dividing.cases_of.Given as goal
 

@@ -1,5 +1,4 @@
-use Rattle.std.proofs.Common.{◌≡◌, ◌++◌, map}
-use Rattle.std.specs.Borrow.{Bor}
+use Rattle.std.{specs.Borrow.Bor, proofs.Common.◌≡◌, proofs.Common.◌++◌, proofs.Common.map}
 use Rattle.of_table.specs.declared.entry.Entry.{Entry}
 use Rattle.of_symbolic_run.proofs.dividing.listed_entries.Given as goal
 

@@ -1,6 +1,5 @@
 use Rattle.std.proofs.Common.{◌≡◌, ◌∙◌, true, false, sym, ap}
-use Rattle.of_symbolic_run.specs.Cases.{goes_to_table}
-use Rattle.of_symbolic_run.proofs.CaseLemmas.{at_place, instruction_last, instruction_more}
+use Rattle.of_symbolic_run.{specs.Cases.goes_to_table, proofs.CaseLemmas.at_place, proofs.CaseLemmas.instruction_last, proofs.CaseLemmas.instruction_more}
 use Rattle.of_symbolic_run.proofs.entering.instruction_works.Goals as goal
 
 pub returns-then-is_goto : goal.returns-then-is_goto

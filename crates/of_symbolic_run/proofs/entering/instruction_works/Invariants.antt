@@ -1,5 +1,4 @@
-use Rattle.std.proofs.Common.{◌≡◌, ◌++◌, drop}
-use Rattle.std.specs.Prelude.{map}
+use Rattle.std.{specs.Prelude.map, proofs.Common.◌≡◌, proofs.Common.◌++◌, proofs.Common.drop}
 use Rattle.of_machine.specs.Rows.{works}
 use Rattle.of_symbolic_run.specs.States.{work_for}
 use Rattle.of_symbolic_run.proofs.entering.instruction_works.Given as goal

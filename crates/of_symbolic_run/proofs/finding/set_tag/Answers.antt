@@ -1,6 +1,5 @@
 use Rattle.std.proofs.Common.{◌≡◌, arith, refl}
-use Rattle.of_layers.specs.declared.field.Field.TheVariants.{VlanPcp, VlanVid}
-use Rattle.of_layers.specs.Fields.{ones_of, row_of}
+use Rattle.of_layers.specs.{declared.field.Field.TheVariants.VlanPcp, declared.field.Field.TheVariants.VlanVid, Fields.ones_of, Fields.row_of}
 use Rattle.of_symbolic_run.proofs.finding.set_tag.Goals as goal
 
 vid_ones : ones_of VlanVid ≡ 8191

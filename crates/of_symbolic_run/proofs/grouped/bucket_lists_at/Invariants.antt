@@ -1,5 +1,4 @@
-use Rattle.of_datapath.specs.Datapath.{world_of}
-use Rattle.of_datapath.specs.Numbers.{forwarding_of}
+use Rattle.of_datapath.specs.{Datapath.world_of, Numbers.forwarding_of}
 use Rattle.of_symbolic_run.proofs.GroupedLemmas.{AreListsSoFar}
 use Rattle.of_symbolic_run.proofs.grouped.bucket_lists_at.Given as goal
 

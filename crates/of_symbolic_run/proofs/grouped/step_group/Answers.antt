@@ -1,8 +1,6 @@
 use Rattle.std.proofs.Common.{None, refl, sym}
-use Rattle.of_datapath.specs.Datapath.{world_of}
-use Rattle.of_datapath.specs.Numbers.{forwarding_of}
-use Rattle.of_symbolic_run.specs.Groups.{IsGroupOf}
-use Rattle.of_symbolic_run.proofs.GroupedLemmas.{group_is, if_ok}
+use Rattle.of_datapath.specs.{Datapath.world_of, Numbers.forwarding_of}
+use Rattle.of_symbolic_run.{specs.Groups.IsGroupOf, proofs.GroupedLemmas.group_is, proofs.GroupedLemmas.if_ok}
 use Rattle.of_symbolic_run.proofs.grouped.step_group.Goals as goal
 
 pub returns-in_ok-lists-in-Some : goal.returns-in_ok-lists-in-Some

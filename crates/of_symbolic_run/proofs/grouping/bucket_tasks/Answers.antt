@@ -1,5 +1,4 @@
-use Rattle.std.proofs.Common.{Bor, List, [], get_or}
-use Rattle.std.proofs.lemmas.List.{get_or_default}
+use Rattle.std.proofs.{Common.Bor, Common.List, Common.[], Common.get_or, lemmas.List.get_or_default}
 use Rattle.of_actions.specs.declared.action.Action.{Action}
 use Rattle.of_symbolic_run.proofs.GroupLemmas.{bucket_more, served_bucket}
 use Rattle.of_symbolic_run.proofs.grouping.bucket_tasks.Goals as goal

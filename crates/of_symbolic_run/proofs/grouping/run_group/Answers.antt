@@ -1,7 +1,5 @@
 use Rattle.std.proofs.Common.{◌++◌, ◌∙◌, List, refl, ap}
-use Rattle.of_symbolic_run.specs.declared.state.SymbolicTask.{SymbolicTask}
-use Rattle.of_symbolic_run.specs.Groups.{bucket_lists}
-use Rattle.of_symbolic_run.proofs.GroupLemmas.{group_next}
+use Rattle.of_symbolic_run.{specs.declared.state.SymbolicTask.SymbolicTask, specs.Groups.bucket_lists, proofs.GroupLemmas.group_next}
 use Rattle.of_symbolic_run.proofs.grouping.run_group.Goals as goal
 
 pub returns : goal.returns

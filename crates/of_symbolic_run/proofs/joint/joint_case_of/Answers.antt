@@ -1,8 +1,6 @@
 use Rattle.std.proofs.Common.{refl}
 use Rattle.of_symbolic.specs.Branches.{flows_listed}
-use Rattle.of_symbolic_run.specs.Cases.{found_flow}
-use Rattle.of_symbolic_run.proofs.CaseLemmas.{case_is}
-use Rattle.of_symbolic_run.proofs.FrameLemmas.{descriptions_within}
+use Rattle.of_symbolic_run.{specs.Cases.found_flow, proofs.CaseLemmas.case_is, proofs.FrameLemmas.descriptions_within}
 use Rattle.of_symbolic_run.proofs.joint.joint_case_of.Goals as goal
 
 pub invariant_of-frames : goal.invariant_of-frames

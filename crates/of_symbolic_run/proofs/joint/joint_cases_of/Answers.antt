@@ -1,11 +1,6 @@
-use Rattle.std.proofs.Common.{List, [], ◌∷◌, subst}
-use Rattle.std.specs.List.{Contains}
-use Rattle.std.specs.Vec.Iter.{into_iter_items}
-use Rattle.std.proofs.lemmas.List.{map-append}
-use Rattle.of_symbolic.specs.declared.branching.Branch.{Branch}
-use Rattle.of_symbolic.specs.Branches.{flows_listed}
-use Rattle.of_symbolic_run.specs.Cases.{IsBranchOf}
-use Rattle.of_symbolic_run.specs.JointCases.{first_case, first_cases, second_case, second_cases}
+use Rattle.std.{specs.List.Contains, specs.Vec.Iter.into_iter_items, proofs.Common.List, proofs.Common.[], proofs.Common.◌∷◌, proofs.Common.subst, proofs.lemmas.List.map-append}
+use Rattle.of_symbolic.specs.{declared.branching.Branch.Branch, Branches.flows_listed}
+use Rattle.of_symbolic_run.specs.{Cases.IsBranchOf, JointCases.first_case, JointCases.first_cases, JointCases.second_case, JointCases.second_cases}
 use Rattle.of_symbolic_run.proofs.CaseLemmas.{left_branches, one_case}
 use Rattle.of_symbolic_run.proofs.joint.joint_cases_of.Goals as goal
 

@@ -1,9 +1,6 @@
-use Rattle.std.specs.List.{Contains}
-use Rattle.std.specs.Vec.Iter.{into_iter_items}
-use Rattle.of_symbolic.specs.declared.branching.Branch.{Branch}
-use Rattle.of_symbolic.specs.Branches.{flows_listed}
-use Rattle.of_symbolic_run.specs.Cases.{AreCasesOf, IsBranchOf}
-use Rattle.of_symbolic_run.specs.JointCases.{first_cases, second_cases}
+use Rattle.std.specs.{List.Contains, Vec.Iter.into_iter_items}
+use Rattle.of_symbolic.specs.{declared.branching.Branch.Branch, Branches.flows_listed}
+use Rattle.of_symbolic_run.specs.{Cases.AreCasesOf, Cases.IsBranchOf, JointCases.first_cases, JointCases.second_cases}
 use Rattle.of_symbolic_run.proofs.joint.joint_cases_of.Given as goal
 
 abbrev pub invariant-loop-branch : goal.invariant-loop-branch

@@ -1,6 +1,5 @@
 use Rattle.std.proofs.Common.{◌≡◌, take}
-use Rattle.of_symbolic_run.specs.TimesToLive.{known_ttl}
-use Rattle.of_symbolic_run.proofs.TtlLemmas.{IsWithin}
+use Rattle.of_symbolic_run.{specs.TimesToLive.known_ttl, proofs.TtlLemmas.IsWithin}
 use Rattle.of_symbolic_run.proofs.known_ttl.ttl_after_all.Given as goal
 
 abbrev pub invariant-loop-action : goal.invariant-loop-action

@@ -1,7 +1,6 @@
 use Rattle.std.proofs.Common.{◌<◌, arith, inl, inr}
-use Rattle.of_symbolic_run.specs.PortNumbers.{AreAbsences}
 use Rattle.of_symbolic_run.proofs.AbsenceLemmas.{block_receives, from_halves, halves, in_block, on_ok_then}
-use Rattle.of_symbolic_run.proofs.GroupedLemmas.{if_ok}
+use Rattle.of_symbolic_run.{specs.PortNumbers.AreAbsences, proofs.GroupedLemmas.if_ok}
 use Rattle.of_symbolic_run.proofs.ports.+push_absent.Goals as goal
 
 pub returns-then-is_none-clause-all : goal.returns-then-is_none-clause-all

@@ -1,6 +1,5 @@
 use Rattle.std.proofs.Common.{◌<◌, ◌≤◌, ◌∙◌, length, arith, subst, sym, take_all}
-use Rattle.of_datapath.specs.Datapath.{world_of}
-use Rattle.of_datapath.specs.Numbers.{forwarding_of}
+use Rattle.of_datapath.specs.{Datapath.world_of, Numbers.forwarding_of}
 use Rattle.of_symbolic.proofs.PartLemmas.{contains_index}
 use Rattle.of_symbolic_run.specs.PortNumbers.{IsAbsence}
 use Rattle.of_symbolic_run.proofs.ReceivedLemmas.{AreWithoutAll, all_received, still_received, without_one_more}

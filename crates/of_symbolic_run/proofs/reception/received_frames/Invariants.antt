@@ -1,6 +1,5 @@
 use Rattle.std.proofs.Common.{◌≡◌, take}
-use Rattle.of_datapath.specs.Datapath.{world_of}
-use Rattle.of_datapath.specs.Numbers.{forwarding_of}
+use Rattle.of_datapath.specs.{Datapath.world_of, Numbers.forwarding_of}
 use Rattle.of_symbolic_run.proofs.ReceivedLemmas.{AreWithoutAll, HasReceived}
 use Rattle.of_symbolic_run.proofs.reception.received_frames.Given as goal
 

@@ -1,5 +1,4 @@
-use Rattle.of_datapath.specs.Datapath.{world_of}
-use Rattle.of_datapath.specs.Numbers.{forwarding_of}
+use Rattle.of_datapath.specs.{Datapath.world_of, Numbers.forwarding_of}
 use Rattle.of_symbolic_run.proofs.SideLemmas.{asks_unknown, has_table, no_table}
 use Rattle.of_symbolic_run.proofs.side.step_lookup.Goals as goal
 

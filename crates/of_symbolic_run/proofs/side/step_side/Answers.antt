@@ -1,10 +1,6 @@
-use Rattle.std.proofs.Common.{ap, sym, ◌∙◌}
-use Rattle.std.proofs.lemmas.Result.{IfOk-weaker}
-use Rattle.of_datapath.specs.Datapath.{world_of}
-use Rattle.of_datapath.specs.Numbers.{forwarding_of}
-use Rattle.of_symbolic_run.specs.States.{answer_to_tasks}
-use Rattle.of_symbolic_run.proofs.GroupLemmas.{group_at}
-use Rattle.of_symbolic_run.proofs.NextLemmas.{done_next, next_from, states_from}
+use Rattle.std.proofs.{Common.ap, Common.sym, Common.◌∙◌, lemmas.Result.IfOk-weaker}
+use Rattle.of_datapath.specs.{Datapath.world_of, Numbers.forwarding_of}
+use Rattle.of_symbolic_run.{specs.States.answer_to_tasks, proofs.GroupLemmas.group_at, proofs.NextLemmas.done_next, proofs.NextLemmas.next_from, proofs.NextLemmas.states_from}
 use Rattle.of_symbolic_run.proofs.SideLemmas.{cases_from, side_from}
 use Rattle.of_symbolic_run.proofs.side.step_side.Goals as goal
 

@@ -1,5 +1,4 @@
-use Rattle.of_table.proofs.CopyLemmas.{supply_more}
-use Rattle.of_table.proofs.TablesLemmas.{wanted_more}
+use Rattle.of_table.proofs.{CopyLemmas.supply_more, TablesLemmas.wanted_more}
 use Rattle.of_table.proofs.each_table.copies_for_all.Goals as goal
 
 pub loop-number-preserved : goal.loop-number-preserved

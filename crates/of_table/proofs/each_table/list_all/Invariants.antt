@@ -1,6 +1,5 @@
 use Rattle.std.proofs.Common.{◌≡◌, take}
-use Rattle.of_table.specs.Selecting.{all_told}
-use Rattle.of_table.specs.Tables.{numbered_notices_from}
+use Rattle.of_table.specs.{Selecting.all_told, Tables.numbered_notices_from}
 use Rattle.of_table.proofs.each_table.list_all.Given as goal
 
 abbrev pub invariant-loop-number : goal.invariant-loop-number

@@ -1,10 +1,6 @@
-use Rattle.std.proofs.Common.{◌≡◌, ◌∙◌, arith, ap}
-use Rattle.std.proofs.lemmas.List.{length-set}
-use Rattle.of_table.specs.Copies.{Supply}
-use Rattle.of_table.specs.Tables.{modified_numbered}
-use Rattle.of_table.proofs.CopyLemmas.{supply_less, supply_room}
-use Rattle.of_table.proofs.TablesLemmas.{each_more, each_all, wanted_then, wanted_part}
-use Rattle.of_table.proofs.Soundness.{step_sound}
+use Rattle.std.proofs.{Common.◌≡◌, Common.◌∙◌, Common.arith, Common.ap, lemmas.List.length-set}
+use Rattle.of_table.{specs.Copies.Supply, specs.Tables.modified_numbered, proofs.CopyLemmas.supply_less, proofs.CopyLemmas.supply_room}
+use Rattle.of_table.proofs.{TablesLemmas.each_more, TablesLemmas.each_all, TablesLemmas.wanted_then, TablesLemmas.wanted_part, Soundness.step_sound}
 use Rattle.of_table.proofs.each_table.modify_tables.Goals as goal
 
 pub modify-requires : goal.modify-requires

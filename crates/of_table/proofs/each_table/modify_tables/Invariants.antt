@@ -1,9 +1,6 @@
 use Rattle.std.proofs.Common.{◌≡◌, ◌-◌, ℕ, true, map, length, take}
 use Rattle.of_actions.specs.FlowCheck.{all_go_with}
-use Rattle.of_table.specs.Entries.{table_of}
-use Rattle.of_table.specs.Tables.{is_in, modified_numbered}
-use Rattle.of_table.specs.Copies.{wanted_from}
-use Rattle.of_table.specs.Sound.{AllSound, are_instructions_fit}
+use Rattle.of_table.specs.{Entries.table_of, Tables.is_in, Tables.modified_numbered, Copies.wanted_from, Sound.AllSound, Sound.are_instructions_fit}
 use Rattle.of_table.proofs.TablesLemmas.{each_to}
 use Rattle.of_table.proofs.each_table.modify_tables.Given as goal
 

@@ -1,8 +1,5 @@
-use Rattle.std.proofs.Common.{◌∙◌}
-use Rattle.std.proofs.lemmas.List.{length-set}
-use Rattle.of_table.specs.Tables.{kept_table}
-use Rattle.of_table.proofs.TablesLemmas.{each_more, each_all}
-use Rattle.of_table.proofs.Soundness.{kept_all_sound}
+use Rattle.std.proofs.{Common.◌∙◌, lemmas.List.length-set}
+use Rattle.of_table.{specs.Tables.kept_table, proofs.TablesLemmas.each_more, proofs.TablesLemmas.each_all, proofs.Soundness.kept_all_sound}
 use Rattle.of_table.proofs.each_table.remove_all.Goals as goal
 
 pub loop-number-preserved : goal.loop-number-preserved

@@ -1,6 +1,5 @@
 use Rattle.std.proofs.Common.{◌≡◌, length}
-use Rattle.of_table.specs.Tables.{kept_table}
-use Rattle.of_table.proofs.TablesLemmas.{each_to}
+use Rattle.of_table.{specs.Tables.kept_table, proofs.TablesLemmas.each_to}
 use Rattle.of_table.proofs.each_table.remove_all.Given as goal
 
 abbrev pub invariant-loop-number : goal.invariant-loop-number

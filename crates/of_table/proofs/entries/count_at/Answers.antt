@@ -1,14 +1,8 @@
 use Rattle.std.proofs.Common.{◌≡◌, ◌<◌, ◌-◌, ◌∙◌, length, drop, arith, ap}
-use Rattle.std.proofs.Math.Seq.{map-set_same}
-use Rattle.std.proofs.lemmas.List.{drop-set-add, length-drop}
-use Rattle.of_table.proofs.CountLemmas.{counted-set}
-use Rattle.of_table.proofs.DeadlineLemmas.{set_stay}
-use Rattle.of_table.proofs.Replaced.{at_behind}
-use Rattle.of_table.specs.declared.selection.Cause.TheVariants.{Moment}
-use Rattle.of_table.specs.Table.{counted_entry}
-use Rattle.of_table.specs.Deadlines.{all_stay}
+use Rattle.std.proofs.{Math.Seq.map-set_same, lemmas.List.drop-set-add, lemmas.List.length-drop}
 use Rattle.of_table.specs.Entries.{entry_of, flows_of, rows_of, entry_numbers, classifier_row, entry_number}
-use Rattle.of_table.specs.declared.entry.Entry.{Entry}
+use Rattle.of_table.{specs.declared.selection.Cause.TheVariants.Moment, specs.Table.counted_entry, specs.Deadlines.all_stay, specs.declared.entry.Entry.Entry, proofs.CountLemmas.counted-set}
+use Rattle.of_table.proofs.{DeadlineLemmas.set_stay, Replaced.at_behind}
 use Rattle.of_table.proofs.entries.count_at.Goals as goal
 
 pub returns-clause-flows : goal.returns-clause-flows

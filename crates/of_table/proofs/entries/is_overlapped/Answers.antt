@@ -1,7 +1,6 @@
 use Rattle.std.proofs.Common.{sym, eqb, ◌&&◌}
 use Rattle.of_oxm.specs.Relations.{overlaps_match}
-use Rattle.of_table.specs.Entries.{entry_of}
-use Rattle.of_table.proofs.PlaceLemmas.{any-map}
+use Rattle.of_table.{specs.Entries.entry_of, proofs.PlaceLemmas.any-map}
 use Rattle.of_table.proofs.entries.is_overlapped.Goals as goal
 
 pub returns-then-flow : goal.returns-then-flow

@@ -1,11 +1,8 @@
 use Rattle.std.proofs.Common.{ℕ, ◌∙◌, sym, ap}
 use Rattle.of_wire.specs.Numbered.{moved_to_end}
 use Rattle.of_classifier.specs.Rows.{row_number}
-use Rattle.of_table.specs.Entries.{entry_of, rows_of}
-use Rattle.of_table.proofs.PlaceLemmas.{position_some}
 use Rattle.of_table.proofs.AddLemmas.{flow_is, added_again, same_number, row_again, used_again, rows_again}
-use Rattle.of_table.proofs.Unlike.{others_left}
-use Rattle.of_table.specs.Table.{is_same}
+use Rattle.of_table.{specs.Entries.entry_of, specs.Entries.rows_of, specs.Table.is_same, proofs.PlaceLemmas.position_some, proofs.Unlike.others_left}
 use Rattle.of_table.proofs.entries.move_last.Goals as goal
 
 pub returns-clause-used : goal.returns-clause-used

@@ -2,13 +2,9 @@ use Rattle.std.proofs.Common.{◌≡◌, ℕ, ◌+◌, ◌∙◌, List, [], ◌�
 use Rattle.std.proofs.lemmas.List.{length-append}
 use Rattle.of_wire.specs.Numbered.{moved_to_end}
 use Rattle.of_classifier.specs.Rows.{row_number}
-use Rattle.of_table.specs.declared.entry.Entry.{Entry}
-use Rattle.of_table.specs.Entries.{entry_of, rows_of}
-use Rattle.of_table.specs.Table.{is_same}
-use Rattle.of_table.proofs.PlaceLemmas.{position_some}
-use Rattle.of_table.proofs.Replaced.{at_first, one_replaced}
 use Rattle.of_table.proofs.AddLemmas.{flow_is, added_again, same_number, row_again, used_again, rows_again}
-use Rattle.of_table.proofs.Unlike.{others_left}
+use Rattle.of_table.{specs.declared.entry.Entry.Entry, specs.Entries.entry_of, specs.Entries.rows_of, specs.Table.is_same, proofs.PlaceLemmas.position_some}
+use Rattle.of_table.proofs.{Replaced.at_first, Replaced.one_replaced, Unlike.others_left}
 use Rattle.of_table.proofs.entries.push_again.Goals as goal
 
 pub returns-clause-used : goal.returns-clause-used

@@ -1,5 +1,4 @@
-use Rattle.std.proofs.Common.{◌≡◌, ◌≤◌, ◌-◌, vec_len}
-use Rattle.std.specs.Prelude.{replicate}
+use Rattle.std.{specs.Prelude.replicate, proofs.Common.◌≡◌, proofs.Common.◌≤◌, proofs.Common.◌-◌, proofs.Common.vec_len}
 use Rattle.of_table.specs.Entries.{no_entries}
 use Rattle.of_table.proofs.flow_tables.empty_tables.Given as goal
 

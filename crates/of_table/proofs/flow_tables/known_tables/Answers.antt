@@ -1,8 +1,7 @@
 use Rattle.std.proofs.Common.{◌≡◌, ℕ, ◌+◌, ◌<◌, ◌≤◌, Bool, true, false, List, length, get_or, ltb, ltb-true, ltb-false, refl, sym, subst, arith}
 use Rattle.std.proofs.lemmas.List.{get_or_read}
 use Rattle.of_wire.specs.Numbered.{is_distinct}
-use Rattle.of_table.specs.Entries.{Numbered, no_entries, entry_number}
-use Rattle.of_table.proofs.TablesLemmas.{get_or_past}
+use Rattle.of_table.{specs.Entries.Numbered, specs.Entries.no_entries, specs.Entries.entry_number, proofs.TablesLemmas.get_or_past}
 use Rattle.of_table.proofs.flow_tables.known_tables.Goals as goal
 
 -- what holds of the tables below i and of the one at i

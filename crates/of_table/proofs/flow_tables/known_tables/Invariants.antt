@@ -1,5 +1,4 @@
-use Rattle.std.proofs.Common.{◌≡◌, ℕ, ◌<◌, true}
-use Rattle.std.specs.Prelude.{slice_index_or}
+use Rattle.std.{specs.Prelude.slice_index_or, proofs.Common.◌≡◌, proofs.Common.ℕ, proofs.Common.◌<◌, proofs.Common.true}
 use Rattle.of_wire.specs.Numbered.{is_distinct}
 use Rattle.of_table.specs.Entries.{no_entries, entry_number}
 use Rattle.of_table.proofs.flow_tables.known_tables.Given as goal

@@ -2,12 +2,8 @@ use Rattle.std.proofs.Common.{◌≡◌, ℕ, ◌-◌, ◌<◌, ◌∙◌, List,
 use Rattle.std.proofs.lemmas.List.{length-set}
 use Rattle.of_actions.specs.declared.instruction.Instruction.{Instruction}
 use Rattle.of_wire.proofs.Changing.{changed_more}
-use Rattle.of_table.specs.Entries.{on_entry}
-use Rattle.of_table.specs.Selecting.{modified_by}
-use Rattle.of_table.specs.Copies.{Supply}
-use Rattle.of_table.proofs.ModifyLemmas.{rows_kept}
 use Rattle.of_table.proofs.CopyLemmas.{supply_less, supply_none, supply_room, wanted_now, wanted_some}
-use Rattle.of_table.proofs.Soundness.{step_fit}
+use Rattle.of_table.{specs.Entries.on_entry, specs.Selecting.modified_by, specs.Copies.Supply, proofs.ModifyLemmas.rows_kept, proofs.Soundness.step_fit}
 use Rattle.of_table.proofs.SpanLemmas.{wanted_none_before, wanted_to_end, same_before, same_behind}
 use Rattle.of_table.proofs.modifying.modify_all.Goals as goal
 

@@ -1,10 +1,7 @@
 use Rattle.std.proofs.Common.{◌≡◌, ◌-◌, ℕ, true, length, take}
-use Rattle.of_table.specs.Sound.{AreSoundEntries, are_instructions_fit}
+use Rattle.of_table.specs.{Sound.AreSoundEntries, Sound.are_instructions_fit, Entries.flows_of, Entries.rows_of, Entries.on_entry, Selecting.modified_by, Copies.wanted}
 use Rattle.of_actions.specs.FlowCheck.{all_go_with}
 use Rattle.of_wire.proofs.Changing.{changed_to}
-use Rattle.of_table.specs.Entries.{flows_of, rows_of, on_entry}
-use Rattle.of_table.specs.Selecting.{modified_by}
-use Rattle.of_table.specs.Copies.{wanted}
 use Rattle.of_table.proofs.modifying.modify_all.Given as goal
 
 abbrev pub invariant-loop-place : goal.invariant-loop-place

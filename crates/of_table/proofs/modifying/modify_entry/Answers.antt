@@ -1,9 +1,6 @@
 use Rattle.std.proofs.Common.{◌≡◌, ◌∙◌, true, sym, subst, List}
-use Rattle.of_actions.specs.declared.instruction.Instruction.{Instruction}
-use Rattle.of_actions.specs.FlowCheck.{all_go_with}
-use Rattle.of_table.specs.Entries.{entry_of}
-use Rattle.of_table.specs.Selecting.{modifies}
-use Rattle.of_table.proofs.CheckLemmas.{modified_goes}
+use Rattle.of_actions.specs.{declared.instruction.Instruction.Instruction, FlowCheck.all_go_with}
+use Rattle.of_table.{specs.Entries.entry_of, specs.Selecting.modifies, proofs.CheckLemmas.modified_goes}
 use Rattle.of_table.proofs.modifying.modify_entry.Goals as goal
 
 pub returns-then-reset-clause-checked : goal.returns-then-reset-clause-checked

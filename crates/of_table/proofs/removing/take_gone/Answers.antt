@@ -1,8 +1,6 @@
-use Rattle.std.proofs.Common.{◌∙◌, ap}
-use Rattle.std.specs.Prelude.{is_some}
-use Rattle.of_table.proofs.RemoveLemmas.{taken_goes, taken_stays}
+use Rattle.std.{specs.Prelude.is_some, proofs.Common.◌∙◌, proofs.Common.ap}
+use Rattle.of_table.proofs.{RemoveLemmas.taken_goes, RemoveLemmas.taken_stays, removing.take_gone.Goals.then-is_some, removing.take_gone.Goals.else-is_some}
 use Rattle.of_table.proofs.removing.take_gone.Goals as goal
-use Rattle.of_table.proofs.removing.take_gone.Goals.{then-is_some, else-is_some}
 
 pub loop-entry-preserved : goal.loop-entry-preserved
 loop-entry-preserved g c = elim c.if-is_some.branch [

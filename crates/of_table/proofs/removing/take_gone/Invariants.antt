@@ -1,6 +1,5 @@
 use Rattle.std.proofs.Common.{◌≡◌, ◌++◌, take, drop}
-use Rattle.of_table.specs.Entries.{rows_of}
-use Rattle.of_table.specs.Selecting.{kept_of}
+use Rattle.of_table.specs.{Entries.rows_of, Selecting.kept_of}
 use Rattle.of_table.proofs.removing.take_gone.Given as goal
 
 abbrev pub invariant-loop-entry : goal.invariant-loop-entry

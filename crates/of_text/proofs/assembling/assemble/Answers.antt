@@ -1,11 +1,7 @@
 use Rattle.std.proofs.Common.{◌≡◌, ℕ, List, None}
-use Rattle.of_text.specs.Groups.{TextGroup}
-use Rattle.of_text.specs.Flows.{Flow}
-use Rattle.of_lines.specs.Lines.{lines_of}
-use Rattle.of_text.specs.Texts.{EncodeItems}
-use Rattle.of_text.specs.First.{first_refusal}
-use Rattle.of_text.specs.Configs.{Configuration, EncodeConfig, tables_of_flows}
+use Rattle.of_text.specs.{Groups.TextGroup, Flows.Flow, Texts.EncodeItems, First.first_refusal, Configs.Configuration, Configs.EncodeConfig, Configs.tables_of_flows}
 use Rattle.of_text.specs.Views.{view_flows, view_groups}
+use Rattle.of_lines.specs.Lines.{lines_of}
 use Rattle.of_text.proofs.assembling.assemble.Goals as goal
 
 encoded_by : (lines : List (List ℕ)) (c : Configuration) (groups : List TextGroup) (flows : List Flow) → c.groups ≡ groups → c.tables ≡ tables_of_flows flows → EncodeItems lines groups flows → first_refusal groups flows ≡ None → EncodeConfig lines c

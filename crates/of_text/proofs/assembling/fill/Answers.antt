@@ -1,15 +1,8 @@
 use Rattle.std.proofs.Common.{◌≡◌, ◌∙◌, ◌<◌, ℕ, eqb, true, false, cond, List, [], length, ap, sym, subst, arith}
-use Rattle.std.specs.HashSet.{contains}
-use Rattle.std.specs.Prelude.{slice_index_or}
-use Rattle.of_text.specs.Flows.{Flow}
-use Rattle.std.specs.List.{list_any}
-use Rattle.of_text.specs.Refusals.{has_same_match}
-use Rattle.of_text.specs.Digests.{ShowsRepeats}
-use Rattle.of_text.specs.Configs.{view_table, view_tables, with_flow_in_table}
-use Rattle.std.proofs.lemmas.List.{length-map}
-use Rattle.of_text.specs.Views.{view, view_flows, view_group, view_groups}
-use Rattle.of_text.proofs.DigestLemmas.{shows_none, shows_more}
+use Rattle.std.{specs.HashSet.contains, specs.Prelude.slice_index_or, specs.List.list_any, proofs.lemmas.List.length-map}
 use Rattle.of_text.proofs.FillLemmas.{none_before, filling_start, filling_sixteen, filling_more, filling_stops, filling_done, none_left}
+use Rattle.of_text.specs.{Flows.Flow, Refusals.has_same_match, Digests.ShowsRepeats, Configs.view_table, Configs.view_tables, Configs.with_flow_in_table}
+use Rattle.of_text.{specs.Views.view, specs.Views.view_flows, specs.Views.view_group, specs.Views.view_groups, proofs.DigestLemmas.shows_none, proofs.DigestLemmas.shows_more}
 use Rattle.of_text.proofs.assembling.fill.Goals as goal
 
 pub refusal_behind-requires-clause-sixteen : goal.refusal_behind-requires-clause-sixteen

@@ -1,8 +1,5 @@
 use Rattle.std.proofs.Common.{vec_len}
-use Rattle.of_text.specs.Configs.{view_tables}
-use Rattle.of_text.specs.Digests.{ShowsRepeats}
-use Rattle.of_text.specs.Views.{view_flows, view_groups}
-use Rattle.of_text.proofs.FillLemmas.{Filling}
+use Rattle.of_text.{specs.Configs.view_tables, specs.Digests.ShowsRepeats, specs.Views.view_flows, specs.Views.view_groups, proofs.FillLemmas.Filling}
 use Rattle.of_text.proofs.assembling.fill.Given as goal
 
 abbrev pub decreases-loop-flow : goal.decreases-loop-flow

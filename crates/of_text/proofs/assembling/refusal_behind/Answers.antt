@@ -1,13 +1,8 @@
 use Rattle.std.proofs.Common.{◌<◌, ◌∙◌, List, [], Option, length, ap, sym, arith}
-use Rattle.of_wire.specs.declared.code.Code.{Code}
-use Rattle.of_wire.specs.Refusals.{first_of}
-use Rattle.of_text.specs.Flows.{Flow}
 use Rattle.std.specs.Prelude.{slice_index_or}
-use Rattle.of_text.specs.Refusals.{flow_refusals, table_refusals, or_else}
-use Rattle.of_text.specs.Configs.{view_tables}
-use Rattle.of_text.specs.Views.{view, view_flows, view_groups}
-use Rattle.of_text.proofs.RefusalLemmas.{first_append}
-use Rattle.of_text.proofs.FillLemmas.{lent_table}
+use Rattle.of_wire.specs.{declared.code.Code.Code, Refusals.first_of}
+use Rattle.of_text.specs.{Flows.Flow, Refusals.flow_refusals, Refusals.table_refusals, Refusals.or_else, Configs.view_tables, Views.view, Views.view_flows, Views.view_groups}
+use Rattle.of_text.proofs.{RefusalLemmas.first_append, FillLemmas.lent_table}
 use Rattle.of_text.proofs.assembling.refusal_behind.Goals as goal
 
 pub returns-in-Some-clause-refusal : goal.returns-in-Some-clause-refusal

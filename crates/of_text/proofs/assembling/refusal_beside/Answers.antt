@@ -1,9 +1,6 @@
 use Rattle.std.proofs.Common.{◌∙◌, [], Option, ap, sym}
-use Rattle.of_wire.specs.declared.code.Code.{Code}
-use Rattle.of_wire.specs.Refusals.{first_of}
-use Rattle.of_text.specs.Refusals.{flow_refusals, table_refusals, or_else}
-use Rattle.of_text.specs.Views.{view, view_groups}
-use Rattle.of_text.proofs.RefusalLemmas.{first_append}
+use Rattle.of_wire.specs.{declared.code.Code.Code, Refusals.first_of}
+use Rattle.of_text.{specs.Refusals.flow_refusals, specs.Refusals.table_refusals, specs.Refusals.or_else, specs.Views.view, specs.Views.view_groups, proofs.RefusalLemmas.first_append}
 use Rattle.of_text.proofs.assembling.refusal_beside.Goals as goal
 
 pub returns-in-Some : goal.returns-in-Some

@@ -1,5 +1,4 @@
-use Rattle.of_text.proofs.ConfigLemmas.{config_fits}
-use Rattle.of_text.proofs.WriteLemmas.{config_written}
+use Rattle.of_text.proofs.{ConfigLemmas.config_fits, WriteLemmas.config_written}
 use Rattle.of_text.proofs.disassembling.disassemble.Goals as goal
 
 pub write_groups-requires : goal.write_groups-requires

@@ -1,7 +1,5 @@
 use Rattle.std.proofs.Common.{refl, arith}
-use Rattle.of_text.proofs.WriteLemmas.{flow_fits, flow_written, flows_text}
-use Rattle.of_text.proofs.PushLemmas.{all_written}
-use Rattle.of_text.specs.Views.{view_flows}
+use Rattle.of_text.{specs.Views.view_flows, proofs.WriteLemmas.flow_fits, proofs.WriteLemmas.flow_written, proofs.WriteLemmas.flows_text, proofs.PushLemmas.all_written}
 use Rattle.of_text.proofs.disassembling.write_flows.Goals as goal
 
 pub write_flow-requires : goal.write_flow-requires

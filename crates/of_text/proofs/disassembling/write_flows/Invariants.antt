@@ -1,9 +1,6 @@
-use Rattle.std.proofs.Common.{◌≡◌, ◌++◌, drop}
-use Rattle.std.specs.List.{AllByRecursion}
+use Rattle.std.{specs.List.AllByRecursion, proofs.Common.◌≡◌, proofs.Common.◌++◌, proofs.Common.drop}
 use Rattle.of_lines.specs.Rows.{Fits}
-use Rattle.of_text.specs.Flows.{rows_of_all_flows}
-use Rattle.of_text.specs.Views.{view_flows}
-use Rattle.of_text.proofs.WriteLemmas.{flows_text}
+use Rattle.of_text.{specs.Flows.rows_of_all_flows, specs.Views.view_flows, proofs.WriteLemmas.flows_text}
 use Rattle.of_text.proofs.disassembling.write_flows.Given as goal
 
 abbrev pub invariant-loop-flow : goal.invariant-loop-flow

@@ -1,7 +1,5 @@
 use Rattle.std.proofs.Common.{refl, arith}
-use Rattle.of_text.proofs.WriteLemmas.{group_fits, group_written, groups_text}
-use Rattle.of_text.proofs.PushLemmas.{all_written}
-use Rattle.of_text.specs.Views.{view_groups}
+use Rattle.of_text.{specs.Views.view_groups, proofs.WriteLemmas.group_fits, proofs.WriteLemmas.group_written, proofs.WriteLemmas.groups_text, proofs.PushLemmas.all_written}
 use Rattle.of_text.proofs.disassembling.write_groups.Goals as goal
 
 pub write_group-requires : goal.write_group-requires

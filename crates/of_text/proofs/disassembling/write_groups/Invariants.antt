@@ -1,9 +1,6 @@
-use Rattle.std.proofs.Common.{◌≡◌, ◌++◌, drop}
-use Rattle.std.specs.List.{AllByRecursion}
+use Rattle.std.{specs.List.AllByRecursion, proofs.Common.◌≡◌, proofs.Common.◌++◌, proofs.Common.drop}
 use Rattle.of_lines.specs.Rows.{Fits}
-use Rattle.of_text.specs.Groups.{rows_of_groups}
-use Rattle.of_text.specs.Views.{view_groups}
-use Rattle.of_text.proofs.WriteLemmas.{groups_text}
+use Rattle.of_text.{specs.Groups.rows_of_groups, specs.Views.view_groups, proofs.WriteLemmas.groups_text}
 use Rattle.of_text.proofs.disassembling.write_groups.Given as goal
 
 abbrev pub invariant-loop-group : goal.invariant-loop-group

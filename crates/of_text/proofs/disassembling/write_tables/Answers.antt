@@ -1,7 +1,5 @@
 use Rattle.std.proofs.Common.{refl, arith}
-use Rattle.of_text.proofs.WriteLemmas.{table_fits, table_written, tables_text}
-use Rattle.of_text.proofs.PushLemmas.{all_written}
-use Rattle.of_text.specs.Configs.{view_tables}
+use Rattle.of_text.{specs.Configs.view_tables, proofs.WriteLemmas.table_fits, proofs.WriteLemmas.table_written, proofs.WriteLemmas.tables_text, proofs.PushLemmas.all_written}
 use Rattle.of_text.proofs.disassembling.write_tables.Goals as goal
 
 pub write_flows-requires : goal.write_flows-requires

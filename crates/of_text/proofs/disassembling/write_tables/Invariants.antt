@@ -1,9 +1,6 @@
-use Rattle.std.proofs.Common.{◌≡◌, ◌++◌, drop}
-use Rattle.std.specs.List.{AllByRecursion}
+use Rattle.std.{specs.List.AllByRecursion, proofs.Common.◌≡◌, proofs.Common.◌++◌, proofs.Common.drop}
 use Rattle.of_lines.specs.Rows.{Fits}
-use Rattle.of_text.specs.Flows.{rows_of_all_flows}
-use Rattle.of_text.specs.Configs.{all_flows, view_tables}
-use Rattle.of_text.proofs.WriteLemmas.{tables_text}
+use Rattle.of_text.{specs.Flows.rows_of_all_flows, specs.Configs.all_flows, specs.Configs.view_tables, proofs.WriteLemmas.tables_text}
 use Rattle.of_text.proofs.disassembling.write_tables.Given as goal
 
 abbrev pub invariant-loop-table : goal.invariant-loop-table

@@ -1,6 +1,5 @@
 use Rattle.of_actions.specs.InstructionLists.{is_served_body}
-use Rattle.of_text.specs.Views.{view_instruction}
-use Rattle.of_text.proofs.PushLemmas.{made_next, others_pass}
+use Rattle.of_text.{specs.Views.view_instruction, proofs.PushLemmas.made_next, proofs.PushLemmas.others_pass}
 use Rattle.of_text.proofs.entry.instructions_from.Goals as goal
 
 pub loop-text-preserved : goal.loop-text-preserved

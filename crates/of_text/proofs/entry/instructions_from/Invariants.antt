@@ -1,6 +1,4 @@
-use Rattle.std.proofs.Common.{◌≡◌, ◌++◌, true, drop}
-use Rattle.std.specs.Prelude.{map}
-use Rattle.std.specs.List.{list_all}
+use Rattle.std.{specs.Prelude.map, specs.List.list_all, proofs.Common.◌≡◌, proofs.Common.◌++◌, proofs.Common.true, proofs.Common.drop}
 use Rattle.of_actions.specs.InstructionLists.{is_served_body}
 use Rattle.of_text.specs.Views.{view_instruction}
 use Rattle.of_text.proofs.entry.instructions_from.Given as goal

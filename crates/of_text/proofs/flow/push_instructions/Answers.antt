@@ -1,6 +1,4 @@
-use Rattle.of_text.specs.Flows.{instruction_rows}
-use Rattle.of_text.specs.Views.{view_instruction}
-use Rattle.of_text.proofs.PushLemmas.{appended}
+use Rattle.of_text.{specs.Flows.instruction_rows, specs.Views.view_instruction, proofs.PushLemmas.appended}
 use Rattle.of_text.proofs.flow.push_instructions.Goals as goal
 
 pub loop-instruction-preserved : goal.loop-instruction-preserved

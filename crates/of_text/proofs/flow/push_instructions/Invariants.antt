@@ -1,8 +1,5 @@
-use Rattle.std.proofs.Common.{◌≡◌, ◌++◌, take}
-use Rattle.std.specs.Prelude.{map}
-use Rattle.std.specs.List.{flat_map}
-use Rattle.of_text.specs.Flows.{instruction_rows}
-use Rattle.of_text.specs.Views.{view_instruction}
+use Rattle.std.{specs.Prelude.map, specs.List.flat_map, proofs.Common.◌≡◌, proofs.Common.◌++◌, proofs.Common.take}
+use Rattle.of_text.specs.{Flows.instruction_rows, Views.view_instruction}
 use Rattle.of_text.proofs.flow.push_instructions.Given as goal
 
 abbrev pub invariant-loop-instruction : goal.invariant-loop-instruction

@@ -1,9 +1,7 @@
 use Rattle.std.proofs.Common.{◌≡◌, ◌≤◌, ◌+◌, ◌++◌, true, drop, length}
-use Rattle.std.specs.Prelude.{map}
-use Rattle.std.specs.List.{list_all}
+use Rattle.std.specs.{Prelude.map, List.list_all}
 use Rattle.of_groups.specs.Buckets.{is_fit}
-use Rattle.of_text.specs.Groups.{bucket_of}
-use Rattle.of_text.specs.Views.{view_bucket}
+use Rattle.of_text.specs.{Groups.bucket_of, Views.view_bucket}
 use Rattle.of_text.proofs.group.buckets_from.Given as goal
 
 abbrev pub invariant-loop-bucket : goal.invariant-loop-bucket

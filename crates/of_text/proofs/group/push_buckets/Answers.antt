@@ -1,6 +1,4 @@
-use Rattle.of_text.specs.Groups.{bucket_rows}
-use Rattle.of_text.specs.Views.{view_bucket}
-use Rattle.of_text.proofs.PushLemmas.{appended}
+use Rattle.of_text.{specs.Groups.bucket_rows, specs.Views.view_bucket, proofs.PushLemmas.appended}
 use Rattle.of_text.proofs.group.push_buckets.Goals as goal
 
 pub loop-bucket-preserved : goal.loop-bucket-preserved

@@ -1,10 +1,6 @@
-use Rattle.std.proofs.Common.{◌∙◌, ap}
-use Rattle.std.specs.List.{flat_map}
+use Rattle.std.{specs.List.flat_map, proofs.Common.◌∙◌, proofs.Common.ap}
 use Rattle.of_wire.specs.Refusals.{first_of}
-use Rattle.of_text.specs.declared.group.BucketText.{BucketText}
-use Rattle.of_text.specs.Refusals.{list_refusals}
-use Rattle.of_text.specs.Views.{view_bucket}
-use Rattle.of_text.proofs.JudgeLemmas.{buckets_same}
+use Rattle.of_text.{specs.declared.group.BucketText.BucketText, specs.Refusals.list_refusals, specs.Views.view_bucket, proofs.JudgeLemmas.buckets_same}
 use Rattle.of_text.proofs.group_refusals.buckets_refusal.Goals as goal
 
 pub returns : goal.returns

@@ -1,7 +1,5 @@
 use Rattle.std.proofs.Common.{Some, sym, ◌∙◌, arith}
-use Rattle.of_text.specs.Refusals.{list_refusals}
-use Rattle.of_text.specs.Views.{view_bucket}
-use Rattle.of_text.proofs.RefusalLemmas.{next_first}
+use Rattle.of_text.{specs.Refusals.list_refusals, specs.Views.view_bucket, proofs.RefusalLemmas.next_first}
 use Rattle.of_text.proofs.group_refusals.each_refusal.Goals as goal
 
 pub returns-in-Some : goal.returns-in-Some

@@ -1,8 +1,6 @@
-use Rattle.std.proofs.Common.{◌≡◌, drop}
-use Rattle.std.specs.List.{flat_map}
+use Rattle.std.{specs.List.flat_map, proofs.Common.◌≡◌, proofs.Common.drop}
 use Rattle.of_wire.specs.Refusals.{first_of}
-use Rattle.of_text.specs.Refusals.{list_refusals}
-use Rattle.of_text.specs.Views.{view_bucket}
+use Rattle.of_text.specs.{Refusals.list_refusals, Views.view_bucket}
 use Rattle.of_text.proofs.group_refusals.each_refusal.Given as goal
 
 abbrev pub invariant-loop-bucket : goal.invariant-loop-bucket

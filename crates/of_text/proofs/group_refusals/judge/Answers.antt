@@ -1,8 +1,7 @@
 use Rattle.std.proofs.Common.{Some, None, sym, ◌∙◌, ap}
 use Rattle.of_wire.specs.Refusals.{first_of}
-use Rattle.of_text.specs.Judging.{kept_refusals}
-use Rattle.of_text.specs.Views.{view_group}
 use Rattle.of_text.proofs.JudgeLemmas.{told_code, kept_code, refused_counts, kept_counts, may_be_made}
+use Rattle.of_text.specs.{Judging.kept_refusals, Views.view_group}
 use Rattle.of_text.proofs.group_refusals.judge.Goals as goal
 
 pub returns-in-Some-clause-code : goal.returns-in-Some-clause-code

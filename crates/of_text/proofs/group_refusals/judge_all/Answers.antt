@@ -1,11 +1,7 @@
 use Rattle.std.proofs.Common.{◌∙◌, refl, ap, arith}
-use Rattle.of_text.specs.Refusals.{counted_as, group_refusals, there_from}
-use Rattle.of_text.specs.Judging.{codes_from}
-use Rattle.of_text.specs.Views.{view_group, view_groups}
+use Rattle.of_text.specs.{Refusals.counted_as, Refusals.group_refusals, Refusals.there_from, Judging.codes_from, Views.view_group, Views.view_groups}
+use Rattle.of_text.proofs.{PushLemmas.all_written, JudgeLemmas.there_next, JudgeLemmas.codes_next, WriteLemmas.group_fits}
 use Rattle.of_wire.specs.Refusals.{first_of}
-use Rattle.of_text.proofs.PushLemmas.{all_written}
-use Rattle.of_text.proofs.JudgeLemmas.{there_next, codes_next}
-use Rattle.of_text.proofs.WriteLemmas.{group_fits}
 use Rattle.of_text.proofs.group_refusals.judge_all.Goals as goal
 
 pub judge-requires : goal.judge-requires

@@ -1,10 +1,6 @@
-use Rattle.std.proofs.Common.{◌≡◌, ◌++◌, drop, vec_len}
-use Rattle.std.specs.List.{AllByRecursion}
+use Rattle.std.{specs.List.AllByRecursion, proofs.Common.◌≡◌, proofs.Common.◌++◌, proofs.Common.drop, proofs.Common.vec_len}
 use Rattle.of_lines.specs.Rows.{Fits}
-use Rattle.of_text.specs.Groups.{rows_of_groups}
-use Rattle.of_text.specs.Refusals.{all_there, there_from}
-use Rattle.of_text.specs.Judging.{codes_from}
-use Rattle.of_text.specs.Views.{view_groups}
+use Rattle.of_text.specs.{Groups.rows_of_groups, Refusals.all_there, Refusals.there_from, Judging.codes_from, Views.view_groups}
 use Rattle.of_text.proofs.group_refusals.judge_all.Given as goal
 
 abbrev pub invariant-loop-group : goal.invariant-loop-group

@@ -1,10 +1,7 @@
 use Rattle.std.proofs.Common.{◌≡◌, ℕ, List, ◌∙◌, length, sym, ap, arith}
-use Rattle.std.specs.Prelude.{map}
-use Rattle.std.proofs.lemmas.List.{length-map}
-use Rattle.of_groups.specs.declared.group.Group.{Group}
-use Rattle.of_groups.specs.Chains.{chain}
-use Rattle.of_text.specs.Views.{view_group, view_groups}
-use Rattle.of_text.proofs.JudgeLemmas.{length_there, length_codes, judged_next}
+use Rattle.std.{specs.Prelude.map, proofs.lemmas.List.length-map}
+use Rattle.of_groups.specs.{declared.group.Group.Group, Chains.chain}
+use Rattle.of_text.{specs.Views.view_group, specs.Views.view_groups, proofs.JudgeLemmas.length_there, proofs.JudgeLemmas.length_codes, proofs.JudgeLemmas.judged_next}
 use Rattle.of_text.proofs.group_refusals.refused_among.Goals as goal
 
 pub index-requires : goal.index-requires

@@ -1,7 +1,5 @@
 use Rattle.std.proofs.Common.{◌≡◌, drop}
-use Rattle.of_text.specs.Refusals.{all_there}
-use Rattle.of_text.specs.First.{refused_group}
-use Rattle.of_text.specs.Views.{view_groups}
+use Rattle.of_text.specs.{Refusals.all_there, First.refused_group, Views.view_groups}
 use Rattle.of_text.proofs.group_refusals.refused_among.Given as goal
 
 abbrev pub invariant-loop-place : goal.invariant-loop-place

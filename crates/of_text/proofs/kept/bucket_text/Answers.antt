@@ -1,7 +1,4 @@
-use Rattle.std.proofs.Common.{false}
-use Rattle.std.specs.Prelude.{nat_le, length}
-use Rattle.std.specs.List.{list_all}
-use Rattle.std.proofs.lemmas.Bool.{and_parts}
+use Rattle.std.{specs.Prelude.nat_le, specs.Prelude.length, specs.List.list_all, proofs.Common.false, proofs.lemmas.Bool.and_parts}
 use Rattle.of_actions.specs.Supported.{is_supported}
 use Rattle.of_text.proofs.KeptLemmas.{actions_fit}
 use Rattle.of_text.proofs.kept.bucket_text.Goals as goal

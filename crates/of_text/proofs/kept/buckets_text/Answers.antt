@@ -1,7 +1,5 @@
 use Rattle.std.proofs.Common.{arith}
-use Rattle.of_text.specs.Groups.{bucket_rows, bucket_text}
-use Rattle.of_text.specs.Views.{view_bucket}
-use Rattle.of_text.proofs.MadeLemmas.{mapped_more, fits_more, bucket_served}
+use Rattle.of_text.{specs.Groups.bucket_rows, specs.Groups.bucket_text, specs.Views.view_bucket, proofs.MadeLemmas.mapped_more, proofs.MadeLemmas.fits_more, proofs.MadeLemmas.bucket_served}
 use Rattle.of_text.proofs.kept.buckets_text.Goals as goal
 
 pub bucket_text-requires : goal.bucket_text-requires

@@ -1,9 +1,6 @@
-use Rattle.std.proofs.Common.{◌≡◌, ◌++◌, drop}
-use Rattle.std.specs.Prelude.{map}
-use Rattle.std.specs.List.{AllByRecursion, flat_map}
-use Rattle.of_text.specs.Groups.{bucket_rows, bucket_text}
+use Rattle.std.{specs.Prelude.map, specs.List.AllByRecursion, specs.List.flat_map, proofs.Common.◌≡◌, proofs.Common.◌++◌, proofs.Common.drop}
+use Rattle.of_text.specs.{Groups.bucket_rows, Groups.bucket_text, Views.view_bucket}
 use Rattle.of_lines.specs.Rows.{Fits}
-use Rattle.of_text.specs.Views.{view_bucket}
 use Rattle.of_text.proofs.kept.buckets_text.Given as goal
 
 abbrev pub invariant-loop-bucket : goal.invariant-loop-bucket

@@ -1,6 +1,5 @@
 use Rattle.std.proofs.Common.{arith}
-use Rattle.of_text.specs.Views.{view_instruction}
-use Rattle.of_text.proofs.MadeLemmas.{seen_more}
+use Rattle.of_text.{specs.Views.view_instruction, proofs.MadeLemmas.seen_more}
 use Rattle.of_text.proofs.kept.instructions_text.Goals as goal
 
 pub loop-instruction-preserved : goal.loop-instruction-preserved

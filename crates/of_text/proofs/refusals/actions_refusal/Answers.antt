@@ -1,9 +1,6 @@
-use Rattle.std.proofs.Common.{Some, None, sym, ◌∙◌}
-use Rattle.std.specs.List.{flat_map}
-use Rattle.std.proofs.lemmas.List.{at_drop_all}
+use Rattle.std.{specs.List.flat_map, proofs.Common.Some, proofs.Common.None, proofs.Common.sym, proofs.Common.◌∙◌, proofs.lemmas.List.at_drop_all}
 use Rattle.of_wire.specs.Refusals.{first_of}
-use Rattle.of_text.specs.Refusals.{text_action_refusals}
-use Rattle.of_text.proofs.RefusalLemmas.{next_at}
+use Rattle.of_text.{specs.Refusals.text_action_refusals, proofs.RefusalLemmas.next_at}
 use Rattle.of_text.proofs.refusals.actions_refusal.Goals as goal
 
 pub returns-in-Some : goal.returns-in-Some

@@ -1,7 +1,5 @@
 use Rattle.std.proofs.Common.{Some, sym, ◌∙◌, arith}
-use Rattle.of_text.specs.Refusals.{instruction_refusals}
-use Rattle.of_text.specs.Views.{view_instruction}
-use Rattle.of_text.proofs.RefusalLemmas.{next_first}
+use Rattle.of_text.{specs.Refusals.instruction_refusals, specs.Views.view_instruction, proofs.RefusalLemmas.next_first}
 use Rattle.of_text.proofs.refusals.lists_refusal.Goals as goal
 
 pub returns-in-Some : goal.returns-in-Some

@@ -1,8 +1,6 @@
-use Rattle.std.proofs.Common.{◌≡◌, drop}
-use Rattle.std.specs.List.{flat_map}
+use Rattle.std.{specs.List.flat_map, proofs.Common.◌≡◌, proofs.Common.drop}
 use Rattle.of_wire.specs.Refusals.{first_of}
-use Rattle.of_text.specs.Refusals.{instruction_refusals}
-use Rattle.of_text.specs.Views.{view_instruction}
+use Rattle.of_text.specs.{Refusals.instruction_refusals, Views.view_instruction}
 use Rattle.of_text.proofs.refusals.lists_refusal.Given as goal
 
 abbrev pub invariant-loop-instruction : goal.invariant-loop-instruction

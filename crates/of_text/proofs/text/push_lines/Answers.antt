@@ -1,7 +1,5 @@
-use Rattle.of_lines.specs.Rows.{Fits}
-use Rattle.of_lines.specs.declared.row.Row.TheVariants.{Apply}
-use Rattle.of_text.specs.Texts.{line_of_row}
-use Rattle.of_text.proofs.PushLemmas.{row_fits, row_written}
+use Rattle.of_lines.specs.{Rows.Fits, declared.row.Row.TheVariants.Apply}
+use Rattle.of_text.{specs.Texts.line_of_row, proofs.PushLemmas.row_fits, proofs.PushLemmas.row_written}
 use Rattle.of_text.proofs.text.push_lines.Goals as goal
 
 pub loop-row-preserved : goal.loop-row-preserved

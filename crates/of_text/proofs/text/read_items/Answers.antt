@@ -1,11 +1,7 @@
 use Rattle.std.proofs.Common.{◌≡◌, ℕ, List, ◌∙◌, refl}
-use Rattle.of_text.specs.declared.text.TextError.{TextError}
-use Rattle.of_text.specs.declared.text.TextError.TheVariants.{Memory, Syntax}
+use Rattle.of_text.specs.{declared.text.TextError.TextError, declared.text.TextError.TheVariants.Memory, declared.text.TextError.TheVariants.Syntax, Groups.TextGroup, Flows.Flow}
+use Rattle.of_text.{specs.Texts.EncodeItems, specs.Texts.TextFails, proofs.TextLemmas.gathered_encodes, proofs.TextLemmas.no_fault, proofs.TextLemmas.one_list}
 use Rattle.of_lines.specs.Lines.{lines_of}
-use Rattle.of_text.specs.Groups.{TextGroup}
-use Rattle.of_text.specs.Flows.{Flow}
-use Rattle.of_text.specs.Texts.{EncodeItems, TextFails}
-use Rattle.of_text.proofs.TextLemmas.{gathered_encodes, no_fault, one_list}
 use Rattle.of_text.proofs.text.read_items.Goals as goal
 
 only_memory : (lines : List (List ℕ)) (groups : List TextGroup) (flows : List Flow) (e : TextError) → EncodeItems lines groups flows → TextFails lines e → e ≡ Memory

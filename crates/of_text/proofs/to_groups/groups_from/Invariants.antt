@@ -1,8 +1,6 @@
-use Rattle.std.proofs.Common.{◌≡◌, ◌++◌, true, drop}
-use Rattle.std.specs.List.{list_all}
+use Rattle.std.{specs.List.list_all, proofs.Common.◌≡◌, proofs.Common.◌++◌, proofs.Common.true, proofs.Common.drop}
 use Rattle.of_groups.specs.Sound.{is_fit_group}
-use Rattle.of_text.specs.Groups.{groups_at}
-use Rattle.of_text.specs.Views.{view_groups}
+use Rattle.of_text.specs.{Groups.groups_at, Views.view_groups}
 use Rattle.of_text.proofs.to_groups.groups_from.Given as goal
 
 abbrev pub invariant-loop-group : goal.invariant-loop-group

@@ -1,7 +1,5 @@
-use Rattle.std.proofs.lemmas.Nat.{and_le_r}
-use Rattle.std.specs.Prelude.{bit_and}
-use Rattle.of_layers.specs.Fields.{ones_of}
-use Rattle.of_layers.proofs.Table.{value_below}
+use Rattle.std.{specs.Prelude.bit_and, proofs.lemmas.Nat.and_le_r}
+use Rattle.of_layers.{specs.Fields.ones_of, proofs.Table.value_below}
 use Rattle.of_trace.proofs.fields.push_digits.Goals as goal
 
 pub push_value-requires : goal.push_value-requires

@@ -1,5 +1,4 @@
-use Rattle.std.proofs.Common.{◌≡◌, ◌++◌, drop}
-use Rattle.std.specs.List.{flat_map}
+use Rattle.std.{specs.List.flat_map, proofs.Common.◌≡◌, proofs.Common.◌++◌, proofs.Common.drop}
 use Rattle.of_headers.specs.FieldMap.{value}
 use Rattle.of_table.specs.Tables.{table_at}
 use Rattle.of_trace.specs.Notes.{seen_note}

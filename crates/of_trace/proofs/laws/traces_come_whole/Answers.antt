@@ -1,5 +1,4 @@
-use Rattle.of_replay.specs.FileRuns.{flow_text, is_text}
-use Rattle.of_replay.proofs.WholeFiles.{text_whole}
+use Rattle.of_replay.{specs.FileRuns.flow_text, specs.FileRuns.is_text, proofs.WholeFiles.text_whole}
 use Rattle.of_trace.specs.Files.{trace_of}
 use Rattle.of_trace.proofs.laws.traces_come_whole.Goals as goal
 

@@ -1,7 +1,6 @@
 use Rattle.std.proofs.Common.{◌≡◌, ◌++◌, ◌∙◌, ap, refl, List, ℕ}
 use Rattle.of_headers.specs.FieldMap.{value}
-use Rattle.of_trace.specs.Sights.{key_seen, sight_after}
-use Rattle.of_trace.specs.Notes.{change_notes, step_changes, ttl_note, ttl_seen}
+use Rattle.of_trace.specs.{Sights.key_seen, Sights.sight_after, Notes.change_notes, Notes.step_changes, Notes.ttl_note, Notes.ttl_seen}
 use Rattle.of_trace.proofs.NotingLemmas.{both, same_part}
 use Rattle.of_trace.proofs.noting.push_changed.Goals as goal
 

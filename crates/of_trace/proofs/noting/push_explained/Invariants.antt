@@ -1,5 +1,4 @@
-use Rattle.std.proofs.Common.{◌≡◌, ◌++◌, length}
-use Rattle.std.specs.Prelude.{IsTrue}
+use Rattle.std.{specs.Prelude.IsTrue, proofs.Common.◌≡◌, proofs.Common.◌++◌, proofs.Common.length}
 use Rattle.of_tracing.specs.Encoded.{are_encoded}
 use Rattle.of_trace.specs.Notes.{explained_from}
 use Rattle.of_trace.proofs.noting.push_explained.Given as goal

@@ -1,8 +1,6 @@
 use Rattle.of_headers.specs.FieldMap.{value}
 use Rattle.of_table.specs.Tables.{table_at}
-use Rattle.of_trace.specs.Notes.{look_notes, table_notes}
-use Rattle.of_trace.specs.Sights.{key_seen}
-use Rattle.of_trace.proofs.NotingLemmas.{look_is, same_part}
+use Rattle.of_trace.{specs.Notes.look_notes, specs.Notes.table_notes, specs.Sights.key_seen, proofs.NotingLemmas.look_is, proofs.NotingLemmas.same_part}
 use Rattle.of_trace.proofs.noting.push_look_notes.Goals as goal
 
 pub returns : goal.returns

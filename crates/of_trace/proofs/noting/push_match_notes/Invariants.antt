@@ -1,5 +1,4 @@
-use Rattle.std.proofs.Common.{◌≡◌, ◌++◌, drop}
-use Rattle.std.specs.List.{AllByRecursion}
+use Rattle.std.{specs.List.AllByRecursion, proofs.Common.◌≡◌, proofs.Common.◌++◌, proofs.Common.drop}
 use Rattle.of_oxm.specs.NormalForm.{IsKept}
 use Rattle.of_trace.specs.Notes.{match_notes}
 use Rattle.of_trace.proofs.noting.push_match_notes.Given as goal

@@ -1,6 +1,4 @@
-use Rattle.of_trace.specs.Notes.{look_notes, miss_notes}
-use Rattle.of_trace.specs.Sights.{key_seen}
-use Rattle.of_trace.proofs.NotingLemmas.{both}
+use Rattle.of_trace.{specs.Notes.look_notes, specs.Notes.miss_notes, specs.Sights.key_seen, proofs.NotingLemmas.both}
 use Rattle.of_trace.proofs.noting.push_notes.Goals as goal
 
 pub returns-in_ok-push_miss_note-in-Miss : goal.returns-in_ok-push_miss_note-in-Miss

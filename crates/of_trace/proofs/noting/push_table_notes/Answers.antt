@@ -1,7 +1,6 @@
 use Rattle.of_headers.specs.FieldMap.{value}
 use Rattle.of_table.specs.Tables.{table_at}
-use Rattle.of_trace.specs.Notes.{reasons_from, seen_notes}
-use Rattle.of_trace.proofs.NotingLemmas.{both}
+use Rattle.of_trace.{specs.Notes.reasons_from, specs.Notes.seen_notes, proofs.NotingLemmas.both}
 use Rattle.of_trace.proofs.noting.push_table_notes.Goals as goal
 
 pub returns : goal.returns

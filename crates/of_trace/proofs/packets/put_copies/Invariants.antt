@@ -1,5 +1,4 @@
-use Rattle.std.proofs.Common.{◌≡◌, ◌++◌}
-use Rattle.std.specs.Prelude.{replicate}
+use Rattle.std.{specs.Prelude.replicate, proofs.Common.◌≡◌, proofs.Common.◌++◌}
 use Rattle.of_trace.proofs.packets.put_copies.Given as goal
 
 abbrev pub invariant-loop-left : goal.invariant-loop-left

@@ -1,7 +1,6 @@
 use Rattle.std.proofs.Common.{◌≡◌, ◌++◌, ◌+◌, ◌≤◌, length}
 use Rattle.of_headers.specs.FieldMap.{value}
-use Rattle.of_table.specs.Entries.{flows_of}
-use Rattle.of_table.specs.Tables.{table_at}
+use Rattle.of_table.specs.{Entries.flows_of, Tables.table_at}
 use Rattle.of_trace.specs.Notes.{reasons_from}
 use Rattle.of_trace.proofs.reasons.push_reasons.Given as goal
 

@@ -1,5 +1,4 @@
-use Rattle.std.proofs.Common.{◌≡◌, ◌++◌, drop}
-use Rattle.std.specs.Prelude.{IsTrue}
+use Rattle.std.{specs.Prelude.IsTrue, proofs.Common.◌≡◌, proofs.Common.◌++◌, proofs.Common.drop}
 use Rattle.of_tracing.specs.Encoded.{are_encoded}
 use Rattle.of_trace.specs.Words.{words_text}
 use Rattle.of_trace.proofs.words.push_words.Given as goal

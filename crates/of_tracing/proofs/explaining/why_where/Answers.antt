@@ -1,11 +1,8 @@
-use Rattle.std.proofs.Common.{◌∙◌, sym, ap, List}
-use Rattle.std.specs.Option.{option_copied}
+use Rattle.std.{specs.Option.option_copied, proofs.Common.◌∙◌, proofs.Common.sym, proofs.Common.ap, proofs.Common.List}
 use Rattle.of_headers.specs.FieldMap.{value}
 use Rattle.of_oxm.specs.declared.match_field.MatchField.{MatchField}
-use Rattle.of_table.specs.Tables.{table_at}
-use Rattle.of_table.specs.Entries.{entry_of}
-use Rattle.of_tracing.proofs.WhyLemmas.{difference, has_difference, lent_entry, no_difference}
-use Rattle.of_tracing.proofs.ReasonLemmas.{differs_is, stands_is}
+use Rattle.of_table.specs.{Tables.table_at, Entries.entry_of}
+use Rattle.of_tracing.proofs.{WhyLemmas.difference, WhyLemmas.has_difference, WhyLemmas.lent_entry, WhyLemmas.no_difference, ReasonLemmas.differs_is, ReasonLemmas.stands_is}
 use Rattle.of_tracing.proofs.explaining.why_where.Goals as goal
 
 pub returns-in-Some-clause-explains : goal.returns-in-Some-clause-explains

@@ -1,6 +1,5 @@
 use Rattle.std.proofs.Common.{◌-◌, ◌++◌, arith}
-use Rattle.of_values.specs.Numbers.{digits}
-use Rattle.of_values.proofs.StepLemmas.{digits_next}
+use Rattle.of_values.{specs.Numbers.digits, proofs.StepLemmas.digits_next}
 use Rattle.of_values.proofs.digits.push_digits.Goals as goal
 
 pub loop-place-preserved : goal.loop-place-preserved

@@ -1,6 +1,5 @@
 use Rattle.std.proofs.Common.{◌-◌, ◌++◌, arith}
-use Rattle.of_values.specs.Ipv6.{further_groups}
-use Rattle.of_values.proofs.StepLemmas.{groups_next}
+use Rattle.of_values.{specs.Ipv6.further_groups, proofs.StepLemmas.groups_next}
 use Rattle.of_values.proofs.ipv6.push_further_groups.Goals as goal
 
 pub loop-left-preserved : goal.loop-left-preserved

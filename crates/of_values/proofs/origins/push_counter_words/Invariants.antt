@@ -1,5 +1,4 @@
-use Rattle.std.proofs.Common.{◌≡◌, ◌++◌, drop}
-use Rattle.std.specs.List.{flat_map}
+use Rattle.std.{specs.List.flat_map, proofs.Common.◌≡◌, proofs.Common.◌++◌, proofs.Common.drop}
 use Rattle.of_values.specs.Origins.{further_counter, view_words}
 use Rattle.of_values.proofs.origins.push_counter_words.Given as goal
 

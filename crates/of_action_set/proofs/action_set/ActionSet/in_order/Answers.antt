@@ -1,9 +1,6 @@
-use Rattle.std.proofs.Common.{not, false}
-use Rattle.std.specs.Prelude.{filter}
+use Rattle.std.{specs.Prelude.filter, proofs.Common.not, proofs.Common.false}
 use Rattle.of_actions.specs.Supported.{is_supported}
-use Rattle.of_action_set.specs.Sets.{rank, is_output}
-use Rattle.of_action_set.proofs.Ranked.{all-filter, rising-filter}
-use Rattle.of_action_set.proofs.Kinded.{few}
+use Rattle.of_action_set.{specs.Sets.rank, specs.Sets.is_output, proofs.Ranked.all-filter, proofs.Ranked.rising-filter, proofs.Kinded.few}
 use Rattle.of_action_set.proofs.action_set.ActionSet.in_order.Goals as goal
 
 pub returns-then-has_group-clause-served : goal.returns-then-has_group-clause-served

@@ -1,5 +1,4 @@
-use Rattle.of_action_set.specs.Storage.{stored}
-use Rattle.of_action_set.proofs.Kinded.{few}
+use Rattle.of_action_set.{specs.Storage.stored, proofs.Kinded.few}
 use Rattle.of_action_set.proofs.action_set.ActionSet.known.Goals as goal
 
 pub returns-clause-few : goal.returns-clause-few

@@ -1,8 +1,6 @@
 use Rattle.of_actions.specs.Supported.{is_supported}
 use Rattle.std.proofs.Common.{false}
-use Rattle.of_action_set.specs.Sets.{rank}
-use Rattle.of_action_set.specs.Storage.{items_in}
-use Rattle.of_action_set.proofs.Ranked.{rising_put, all_put}
+use Rattle.of_action_set.{specs.Sets.rank, specs.Storage.items_in, proofs.Ranked.rising_put, proofs.Ranked.all_put}
 use Rattle.of_action_set.proofs.action_set.ActionSet.put.Goals as goal
 
 pub invariant_of-self : goal.invariant_of-self

@@ -1,6 +1,5 @@
 use Rattle.std.proofs.Common.{◌≤◌, length, arith}
-use Rattle.of_action_set.specs.Sets.{rank}
-use Rattle.of_action_set.proofs.Ranked.{but, length-filter_le}
+use Rattle.of_action_set.{specs.Sets.rank, proofs.Ranked.but, proofs.Ranked.length-filter_le}
 use Rattle.of_action_set.proofs.action_set.Stored.put.Goals as goal
 
 pub put_in-requires : goal.put_in-requires

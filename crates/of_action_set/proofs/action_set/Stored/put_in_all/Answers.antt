@@ -1,9 +1,6 @@
-use Rattle.std.proofs.Common.{◌≡◌, true, false, arith}
-use Rattle.std.specs.List.{list_all}
-use Rattle.of_actions.specs.Supported.{is_supported}
-use Rattle.of_actions.specs.Rising.{is_ascending}
-use Rattle.of_action_set.specs.Sets.{rank}
-use Rattle.of_action_set.proofs.Kinded.{put_few}
+use Rattle.std.{specs.List.list_all, proofs.Common.◌≡◌, proofs.Common.true, proofs.Common.false, proofs.Common.arith}
+use Rattle.of_actions.specs.{Supported.is_supported, Rising.is_ascending}
+use Rattle.of_action_set.{specs.Sets.rank, proofs.Kinded.put_few}
 use Rattle.of_action_set.proofs.action_set.Stored.put_in_all.Goals as goal
 
 pub put_in-requires : goal.put_in-requires

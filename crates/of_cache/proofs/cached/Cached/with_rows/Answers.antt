@@ -1,9 +1,6 @@
 use Rattle.std.proofs.Common.{◌≡◌, ℕ, zero, suc, List, [], ◌∷◌, Option, take, refl, ap, ◌∙◌}
 use Rattle.lru.specs.LruCache.{LruCache, lru_cache}
-use Rattle.of_cache.specs.declared.region.Region.{Region}
-use Rattle.of_cache.specs.Regions.{AnsweredRegion}
-use Rattle.of_cache.proofs.Changing.{none_right}
-use Rattle.of_cache.proofs.Masks.{no_masks_of}
+use Rattle.of_cache.{specs.declared.region.Region.Region, specs.Regions.AnsweredRegion, proofs.Changing.none_right, proofs.Masks.no_masks_of}
 use Rattle.of_cache.proofs.cached.Cached.with_rows.Goals as goal
 
 none_taken : (n : ℕ) (rows : List AnsweredRegion) → rows ≡ [] → take n rows ≡ []

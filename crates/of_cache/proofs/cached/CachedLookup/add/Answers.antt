@@ -1,10 +1,8 @@
 use Rattle.std.proofs.Common.{ℕ, List, sym, subst, ◌∙◌, ap}
 use Rattle.std.specs.Prelude.{◌==◌}
 use Rattle.of_oxm.specs.declared.masks.FieldMask.{FieldMask}
-use Rattle.of_cache.specs.Held.{HeldRows}
-use Rattle.of_cache.specs.Kept.{not_beaten}
-use Rattle.of_cache.specs.Listed.{AreListed}
 use Rattle.of_cache.proofs.Changing.{added, none_listed, none_right, on_ok, same_staying}
+use Rattle.of_cache.specs.{Held.HeldRows, Kept.not_beaten, Listed.AreListed}
 use Rattle.of_cache.proofs.cached.CachedLookup.add.Goals as goal
 
 pub drop_beaten-requires-clause-listed : goal.drop_beaten-requires-clause-listed

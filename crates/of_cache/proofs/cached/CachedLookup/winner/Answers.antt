@@ -2,14 +2,8 @@ use Rattle.std.proofs.Common.{◌≡◌, ℕ, ◌-◌, List, ◌∷◌, take, Op
 use Rattle.lru.specs.LruCache.{LruCache}
 use Rattle.of_headers.specs.FieldMap.{value}
 use Rattle.of_oxm.specs.declared.masks.FieldMask.{FieldMask}
-use Rattle.of_cache.specs.declared.region.Region.{Region}
-use Rattle.of_cache.specs.Regions.{region_of}
-use Rattle.of_cache.specs.Kept.{AreSoundRegions}
-use Rattle.of_cache.specs.Finding.{NoneHolds}
-use Rattle.of_cache.specs.Listed.{AreListed, AreMasks}
-use Rattle.of_cache.proofs.Changing.{hit_right, hit_answers, stored_right, stored_found}
-use Rattle.of_cache.proofs.Masks.{masks_moved}
-use Rattle.of_cache.proofs.Splitting.{absent}
+use Rattle.of_cache.specs.{declared.region.Region.Region, Regions.region_of, Kept.AreSoundRegions, Finding.NoneHolds, Listed.AreListed, Listed.AreMasks}
+use Rattle.of_cache.proofs.{Changing.hit_right, Changing.hit_answers, Changing.stored_right, Changing.stored_found, Masks.masks_moved, Splitting.absent}
 use Rattle.of_cache.proofs.cached.CachedLookup.winner.Goals as goal
 
 pub find-requires : goal.find-requires

@@ -1,6 +1,5 @@
 use Rattle.of_wire.proofs.NumberedLemmas.{distinct-push}
-use Rattle.of_classifier.specs.Rows.{made_row, row_number}
-use Rattle.of_classifier.proofs.Given.{unused_of_vacant, given-push}
+use Rattle.of_classifier.{specs.Rows.made_row, specs.Rows.row_number, proofs.Given.unused_of_vacant, proofs.Given.given-push}
 use Rattle.of_classifier.proofs.scan.ScanLookup.add.Goals as goal
 
 pub invariant_of-self-2 : goal.invariant_of-self-2

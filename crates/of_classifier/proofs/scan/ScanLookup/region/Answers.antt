@@ -1,8 +1,7 @@
 use Rattle.std.proofs.Common.{List, ap}
 use Rattle.of_headers.specs.FieldMap.{value}
 use Rattle.of_wire.specs.Highest.{oldest_highest}
-use Rattle.of_classifier.specs.declared.Row.{Row}
-use Rattle.of_classifier.specs.Rows.{row_priority}
+use Rattle.of_classifier.specs.{declared.Row.Row, Rows.row_priority}
 use Rattle.of_classifier.proofs.scan.ScanLookup.region.Goals as goal
 
 pub returns-clause-alike : goal.returns-clause-alike

@@ -1,6 +1,5 @@
 use Rattle.of_wire.proofs.NumberedLemmas.{distinct-without}
-use Rattle.of_classifier.specs.Rows.{row_number}
-use Rattle.of_classifier.proofs.Given.{given-without}
+use Rattle.of_classifier.{specs.Rows.row_number, proofs.Given.given-without}
 use Rattle.of_classifier.proofs.scan.ScanLookup.take.Goals as goal
 
 pub invariant_of-self : goal.invariant_of-self

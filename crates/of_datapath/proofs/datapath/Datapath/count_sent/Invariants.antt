@@ -1,6 +1,5 @@
 use Rattle.std.proofs.Common.{◌≡◌, drop}
-use Rattle.of_datapath.specs.Datapath.{all_sent}
-use Rattle.of_datapath.specs.Numbers.{forwarding_of}
+use Rattle.of_datapath.specs.{Datapath.all_sent, Numbers.forwarding_of}
 use Rattle.of_datapath.proofs.datapath.Datapath.count_sent.Given as goal
 
 abbrev pub invariant-loop-effect : goal.invariant-loop-effect

@@ -1,9 +1,6 @@
 use Rattle.std.proofs.Common.{List, sym, ap, ◌∙◌}
-use Rattle.of_table.specs.declared.entry.Entry.{Entry}
-use Rattle.of_table.specs.Table.{Table}
-use Rattle.of_table.specs.Entries.{flows_of}
-use Rattle.of_datapath.proofs.Looking.{few_entries}
-use Rattle.of_datapath.proofs.Worlds.{table_is}
+use Rattle.of_table.specs.{declared.entry.Entry.Entry, Table.Table, Entries.flows_of}
+use Rattle.of_datapath.proofs.{Looking.few_entries, Worlds.table_is}
 use Rattle.of_datapath.proofs.datapath.Datapath.entries.Goals as goal
 
 pub returns-clause-flows : goal.returns-clause-flows

@@ -1,5 +1,4 @@
-use Rattle.std.proofs.Common.{◌∙◌, ap, List}
-use Rattle.std.specs.Prelude.{slice_get}
+use Rattle.std.{specs.Prelude.slice_get, proofs.Common.◌∙◌, proofs.Common.ap, proofs.Common.List}
 use Rattle.of_table.specs.declared.entry.Entry.{Entry}
 use Rattle.of_datapath.proofs.Looking.{entry_without}
 use Rattle.of_datapath.proofs.datapath.Datapath.entry.Goals as goal

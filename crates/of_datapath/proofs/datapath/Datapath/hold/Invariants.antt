@@ -1,6 +1,5 @@
 use Rattle.std.proofs.Common.{◌≡◌}
-use Rattle.of_datapath.specs.Buffers.{hold_all}
-use Rattle.of_datapath.specs.Applying.{without_used}
+use Rattle.of_datapath.specs.{Buffers.hold_all, Applying.without_used}
 use Rattle.of_datapath.proofs.datapath.Datapath.hold.Given as goal
 
 abbrev pub invariant-loop-frame : goal.invariant-loop-frame

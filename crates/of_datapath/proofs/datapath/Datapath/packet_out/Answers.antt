@@ -1,10 +1,7 @@
 use Rattle.std.proofs.Common.{◌≡◌, ◌∙◌, ℕ, List, ap, refl, sym}
-use Rattle.std.proofs.lemmas.Result.{IfOk-weaker}
-use Rattle.std.specs.Prelude.{None}
+use Rattle.std.{specs.Prelude.None, proofs.lemmas.Result.IfOk-weaker}
 use Rattle.of_machine.specs.Rows.{entering, acts}
-use Rattle.of_datapath.specs.Numbers.{contents_of, forwarding_of}
-use Rattle.of_datapath.specs.Applying.{without_used}
-use Rattle.of_datapath.proofs.Forwarding.{went, without_used_next}
+use Rattle.of_datapath.{specs.Numbers.contents_of, specs.Numbers.forwarding_of, specs.Applying.without_used, proofs.Forwarding.went, proofs.Forwarding.without_used_next}
 use Rattle.of_datapath.proofs.datapath.Datapath.packet_out.Goals as goal
 
 pub returns-clause-ok : goal.returns-clause-ok

@@ -1,11 +1,7 @@
-use Rattle.std.proofs.Common.{List, ap, sym, ◌∙◌}
-use Rattle.std.specs.Prelude.{map}
+use Rattle.std.{specs.Prelude.map, proofs.Common.List, proofs.Common.ap, proofs.Common.sym, proofs.Common.◌∙◌}
 use Rattle.of_classifier.specs.declared.Row.{Row}
-use Rattle.of_table.specs.Table.{Table}
-use Rattle.of_table.specs.Sound.{row_key, entry_key}
-use Rattle.of_table.specs.Tables.{numbered_at}
-use Rattle.of_datapath.proofs.Looking.{rows_without}
-use Rattle.of_datapath.proofs.Worlds.{table_is}
+use Rattle.of_table.specs.{Table.Table, Sound.row_key, Sound.entry_key, Tables.numbered_at}
+use Rattle.of_datapath.proofs.{Looking.rows_without, Worlds.table_is}
 use Rattle.of_datapath.proofs.datapath.Datapath.part.Goals as goal
 
 pub returns : goal.returns

@@ -1,12 +1,8 @@
 use Rattle.std.proofs.Common.{◌≡◌, ◌∙◌, ℕ, List, ap, refl, [], ◌∷◌, length}
-use Rattle.std.proofs.lemmas.Result.{IfOk-weaker}
+use Rattle.std.{specs.Prelude.Some, specs.Prelude.None, proofs.lemmas.Result.IfOk-weaker}
 use Rattle.of_machine.specs.Rows.{entering, Lookup}
 use Rattle.of_ports.specs.declared.counters.PortCount.TheVariants.{Received}
-use Rattle.std.specs.Prelude.{Some, None}
-use Rattle.of_datapath.specs.Numbers.{contents_of, forwarding_of}
-use Rattle.of_datapath.specs.declared.reception.Reception.{Reception}
-use Rattle.of_datapath.specs.Datapath.{count_port}
-use Rattle.of_datapath.proofs.Forwarding.{went}
+use Rattle.of_datapath.{specs.Numbers.contents_of, specs.Numbers.forwarding_of, specs.declared.reception.Reception.Reception, specs.Datapath.count_port, proofs.Forwarding.went}
 use Rattle.of_datapath.proofs.datapath.Datapath.receive.Goals as goal
 
 pub returns-clause-ok : goal.returns-clause-ok

@@ -1,9 +1,7 @@
 use Rattle.std.proofs.Common.{◌≡◌, ◌∙◌, ℕ, List, ap, refl}
 use Rattle.std.proofs.lemmas.Result.{err_from_is_err_and}
 use Rattle.of_machine.specs.Rows.{entering}
-use Rattle.of_datapath.specs.Numbers.{forwarding_of}
-use Rattle.of_datapath.specs.Datapath.{world_of}
-use Rattle.of_datapath.proofs.Prefixes.{front_is_prefix}
+use Rattle.of_datapath.{specs.Numbers.forwarding_of, specs.Datapath.world_of, proofs.Prefixes.front_is_prefix}
 use Rattle.of_datapath.proofs.datapath.Datapath.received_items.Goals as goal
 
 pub returns-in_err-outcome-clause-err : goal.returns-in_err-outcome-clause-err

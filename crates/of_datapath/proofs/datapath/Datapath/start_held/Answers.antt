@@ -1,10 +1,7 @@
 use Rattle.std.proofs.Common.{◌≡◌, ◌∙◌, ℕ, List, ap, refl, sym, [], ◌∷◌}
-use Rattle.std.proofs.lemmas.Result.{IfOk-weaker}
-use Rattle.std.specs.Prelude.{Some, None}
+use Rattle.std.{specs.Prelude.Some, specs.Prelude.None, proofs.lemmas.Result.IfOk-weaker}
 use Rattle.of_machine.specs.Rows.{entering, Lookup}
-use Rattle.of_datapath.specs.Numbers.{contents_of, forwarding_of}
-use Rattle.of_datapath.specs.Datapath.{without_held}
-use Rattle.of_datapath.proofs.Forwarding.{went, used_next}
+use Rattle.of_datapath.{specs.Numbers.contents_of, specs.Numbers.forwarding_of, specs.Datapath.without_held, proofs.Forwarding.went, proofs.Forwarding.used_next}
 use Rattle.of_datapath.proofs.datapath.Datapath.start_held.Goals as goal
 
 pub returns-clause-ok : goal.returns-clause-ok

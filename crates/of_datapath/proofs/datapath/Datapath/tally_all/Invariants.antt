@@ -1,7 +1,6 @@
 use Rattle.std.proofs.Common.{◌≡◌, drop}
 use Rattle.of_table.specs.Tables.{all_numbers}
-use Rattle.of_datapath.specs.Datapath.{all_tallied}
-use Rattle.of_datapath.specs.Numbers.{forwarding_of, all_placed}
+use Rattle.of_datapath.specs.{Datapath.all_tallied, Numbers.forwarding_of, Numbers.all_placed}
 use Rattle.of_datapath.proofs.datapath.Datapath.tally_all.Given as goal
 
 abbrev pub invariant-loop-count : goal.invariant-loop-count

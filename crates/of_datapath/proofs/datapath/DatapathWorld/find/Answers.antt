@@ -1,8 +1,6 @@
 use Rattle.of_headers.specs.FieldMap.{value}
-use Rattle.of_table.specs.Table.{winner_place}
-use Rattle.of_table.specs.Entries.{flows_of}
-use Rattle.of_datapath.specs.Numbers.{entries_at}
-use Rattle.of_datapath.proofs.Worlds.{answer_is}
+use Rattle.of_table.specs.{Table.winner_place, Entries.flows_of}
+use Rattle.of_datapath.{specs.Numbers.entries_at, proofs.Worlds.answer_is}
 use Rattle.of_datapath.proofs.datapath.DatapathWorld.find.Goals as goal
 
 pub returns-then-table-lt-TABLES-clause-found : goal.returns-then-table-lt-TABLES-clause-found

@@ -1,9 +1,7 @@
 use Rattle.std.proofs.Common.{◌≡◌, ◌∙◌, sym, ap, List, Option, Some, None}
-use Rattle.std.specs.Prelude.{slice_get}
-use Rattle.std.specs.Option.{option_copied}
+use Rattle.std.specs.{Prelude.slice_get, Option.option_copied}
 use Rattle.of_table.specs.declared.entry.Entry.{Entry}
-use Rattle.of_datapath.specs.Numbers.{entries_at}
-use Rattle.of_datapath.proofs.Looking.{flow_is, flow_of_entry}
+use Rattle.of_datapath.{specs.Numbers.entries_at, proofs.Looking.flow_is, proofs.Looking.flow_of_entry}
 use Rattle.of_datapath.proofs.dry_run.LookingWorld.flow.Goals as goal
 
 pub unreachable-requires : goal.unreachable-requires

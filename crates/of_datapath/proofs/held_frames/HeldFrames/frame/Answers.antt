@@ -1,6 +1,5 @@
 use Rattle.std.proofs.Common.{ap, rules}
-use Rattle.of_datapath.specs.Buffers.{HeldFrames}
-use Rattle.of_datapath.proofs.Circle.{held_there, held_past}
+use Rattle.of_datapath.{specs.Buffers.HeldFrames, proofs.Circle.held_there, proofs.Circle.held_past}
 use Rattle.of_datapath.proofs.held_frames.HeldFrames.frame.Goals as goal
 
 pub returns-in_err-get : goal.returns-in_err-get

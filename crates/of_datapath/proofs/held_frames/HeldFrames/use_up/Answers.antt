@@ -1,6 +1,5 @@
 use Rattle.std.proofs.Common.{ap, ◌∙◌}
-use Rattle.of_datapath.specs.Buffers.{HeldFrames}
-use Rattle.of_datapath.proofs.Circle.{used_past}
+use Rattle.of_datapath.{specs.Buffers.HeldFrames, proofs.Circle.used_past}
 use Rattle.of_datapath.proofs.held_frames.HeldFrames.use_up.Goals as goal
 
 pub returns-in_default-get_mut : goal.returns-in_default-get_mut

@@ -1,6 +1,5 @@
 use Rattle.std.proofs.Common.{◌∙◌, ap, List, ℕ, ◌++◌}
-use Rattle.of_explain.specs.Folding.{Fold}
-use Rattle.of_explain.proofs.FoldLemmas.{all_printed}
+use Rattle.of_explain.{specs.Folding.Fold, proofs.FoldLemmas.all_printed}
 use Rattle.of_explain.proofs.folding.Folding.end.Goals as goal
 
 pub returns : goal.returns

@@ -1,7 +1,6 @@
 use Rattle.std.proofs.Common.{◌≡◌, ◌∙◌, ap, arith, eqb, false, sym, subst, ℕ, ◌++◌, ◌∷◌, []}
 use Rattle.std.proofs.lemmas.Bool.Decides.{nat_tests}
-use Rattle.of_explain.specs.Folding.{Fold, IsFolded}
-use Rattle.of_explain.proofs.FoldLemmas.{byte_comes, line_ends}
+use Rattle.of_explain.{specs.Folding.Fold, specs.Folding.IsFolded, proofs.FoldLemmas.byte_comes, proofs.FoldLemmas.line_ends}
 use Rattle.of_explain.proofs.folding.Folding.push.Goals as goal
 
 pub returns-then-byte-ne10 : goal.returns-then-byte-ne10

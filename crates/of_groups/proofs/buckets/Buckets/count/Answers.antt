@@ -1,6 +1,5 @@
 use Rattle.std.proofs.Common.{◌∙◌, ap, arith}
-use Rattle.of_groups.specs.Buckets.{used_at}
-use Rattle.of_groups.proofs.BucketLemmas.{fit_used, all_lent}
+use Rattle.of_groups.{specs.Buckets.used_at, proofs.BucketLemmas.fit_used, proofs.BucketLemmas.all_lent}
 use Rattle.of_groups.proofs.buckets.Buckets.count.Goals as goal
 
 pub invariant_of-self : goal.invariant_of-self

@@ -1,7 +1,5 @@
-use Rattle.std.proofs.Common.{◌∙◌, ap, arith}
-use Rattle.std.specs.Prelude.{map}
-use Rattle.of_groups.specs.Buckets.{fresh}
-use Rattle.of_groups.proofs.BucketLemmas.{fit_reset, all_lent}
+use Rattle.std.{specs.Prelude.map, proofs.Common.◌∙◌, proofs.Common.ap, proofs.Common.arith}
+use Rattle.of_groups.{specs.Buckets.fresh, proofs.BucketLemmas.fit_reset, proofs.BucketLemmas.all_lent}
 use Rattle.of_groups.proofs.buckets.Buckets.reset.Goals as goal
 
 pub invariant_of-self : goal.invariant_of-self

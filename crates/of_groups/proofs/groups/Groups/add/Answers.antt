@@ -1,9 +1,6 @@
-use Rattle.std.proofs.Common.{◌∙◌, sym, ap}
-use Rattle.std.proofs.lemmas.Result.{err_from_is_err_and}
-use Rattle.of_groups.specs.Faults.{add_fault}
-use Rattle.of_groups.proofs.Soundness.{same_add, sound_added}
+use Rattle.std.proofs.{Common.◌∙◌, Common.sym, Common.ap, lemmas.Result.err_from_is_err_and}
+use Rattle.of_groups.{specs.Faults.add_fault, proofs.Soundness.same_add, proofs.Soundness.sound_added, proofs.groups.Groups.add.Goals.in-Ok, proofs.groups.Groups.add.Goals.in-Err}
 use Rattle.of_groups.proofs.groups.Groups.add.Goals as goal
-use Rattle.of_groups.proofs.groups.Groups.add.Goals.{in-Ok, in-Err}
 
 pub returns-in_err-check_add-clause-fault : goal.returns-in_err-check_add-clause-fault
 returns-in_err-check_add-clause-fault c =

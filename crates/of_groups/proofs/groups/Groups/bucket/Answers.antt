@@ -1,9 +1,6 @@
 use Rattle.std.proofs.Common.{◌≡◌, ◌∙◌, ap, sym, Some, List}
-use Rattle.std.specs.Prelude.{slice_get}
-use Rattle.std.specs.Option.{option_map, option_copied}
-use Rattle.of_groups.specs.declared.bucket.Bucket.{Bucket}
-use Rattle.of_groups.specs.Groups.{find_group}
-use Rattle.of_groups.proofs.WorldLemmas.{bucket_within}
+use Rattle.std.specs.{Prelude.slice_get, Option.option_map, Option.option_copied}
+use Rattle.of_groups.{specs.declared.bucket.Bucket.Bucket, specs.Groups.find_group, proofs.WorldLemmas.bucket_within}
 use Rattle.of_groups.proofs.groups.Groups.bucket.Goals as goal
 
 pub actions_at-requires : goal.actions_at-requires

@@ -1,6 +1,5 @@
 use Rattle.std.proofs.Common.{◌+◌, ◌%◌, ◌^◌}
-use Rattle.of_groups.specs.declared.group.Group.{Group}
-use Rattle.of_groups.proofs.CountLemmas.{sound_at, keeps_counters}
+use Rattle.of_groups.{specs.declared.group.Group.Group, proofs.CountLemmas.sound_at, proofs.CountLemmas.keeps_counters}
 use Rattle.of_groups.proofs.groups.Groups.count.Goals as goal
 
 pub invariant_of-self : goal.invariant_of-self

@@ -1,6 +1,4 @@
-use Rattle.of_groups.specs.declared.group.Group.{Group}
-use Rattle.of_groups.specs.Buckets.{used_at}
-use Rattle.of_groups.proofs.CountLemmas.{sound_at, keeps_used}
+use Rattle.of_groups.{specs.declared.group.Group.Group, specs.Buckets.used_at, proofs.CountLemmas.sound_at, proofs.CountLemmas.keeps_used}
 use Rattle.of_groups.proofs.groups.Groups.count_bucket.Goals as goal
 
 pub invariant_of-self : goal.invariant_of-self

@@ -1,7 +1,5 @@
-use Rattle.std.proofs.Common.{◌∙◌, sym, ap}
-use Rattle.std.specs.List.{list_any}
-use Rattle.of_groups.specs.Groups.{names}
-use Rattle.of_groups.proofs.Soundness.{sound_none, sound_without}
+use Rattle.std.{specs.List.list_any, proofs.Common.◌∙◌, proofs.Common.sym, proofs.Common.ap}
+use Rattle.of_groups.{specs.Groups.names, proofs.Soundness.sound_none, proofs.Soundness.sound_without}
 use Rattle.of_groups.proofs.groups.Groups.delete.Goals as goal
 
 pub invariant_of-self : goal.invariant_of-self

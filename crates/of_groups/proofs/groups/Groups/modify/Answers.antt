@@ -1,8 +1,5 @@
-use Rattle.std.proofs.Common.{◌∙◌, sym, ap}
-use Rattle.std.proofs.lemmas.Result.{err_from_is_err_and}
-use Rattle.of_groups.specs.Groups.{new_group, created_at}
-use Rattle.of_groups.specs.Faults.{modify_fault}
-use Rattle.of_groups.proofs.Soundness.{same_modify, same_with, sound_modified}
+use Rattle.std.proofs.{Common.◌∙◌, Common.sym, Common.ap, lemmas.Result.err_from_is_err_and}
+use Rattle.of_groups.{specs.Groups.new_group, specs.Groups.created_at, specs.Faults.modify_fault, proofs.Soundness.same_modify, proofs.Soundness.same_with, proofs.Soundness.sound_modified}
 use Rattle.of_groups.proofs.groups.Groups.modify.Goals as goal
 
 pub returns-in_err-check_modify-clause-fault : goal.returns-in_err-check_modify-clause-fault

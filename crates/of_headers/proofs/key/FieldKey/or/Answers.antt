@@ -1,5 +1,4 @@
-use Rattle.of_headers.proofs.PresenceLemmas.{absent_or, fields_or, value_or}
-use Rattle.of_headers.specs.Numbers.{numbers_in}
+use Rattle.of_headers.{specs.Numbers.numbers_in, proofs.PresenceLemmas.absent_or, proofs.PresenceLemmas.fields_or, proofs.PresenceLemmas.value_or}
 use Rattle.of_headers.proofs.key.FieldKey.or.Goals as goal
 
 pub invariant_of-result : goal.invariant_of-result

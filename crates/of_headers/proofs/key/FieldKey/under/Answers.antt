@@ -1,5 +1,4 @@
-use Rattle.of_headers.proofs.PresenceLemmas.{absent_under, fields_under, value_under}
-use Rattle.of_headers.specs.Numbers.{numbers_in}
+use Rattle.of_headers.{specs.Numbers.numbers_in, proofs.PresenceLemmas.absent_under, proofs.PresenceLemmas.fields_under, proofs.PresenceLemmas.value_under}
 use Rattle.of_headers.proofs.key.FieldKey.under.Goals as goal
 
 pub invariant_of-result : goal.invariant_of-result

@@ -1,7 +1,5 @@
-use Rattle.std.proofs.Common.{◌∙◌, ap}
-use Rattle.std.specs.Prelude.{bit_or}
-use Rattle.of_headers.specs.Numbers.{numbers_in}
-use Rattle.of_headers.proofs.PresenceLemmas.{fields_with, absent_with, value_with}
+use Rattle.std.{specs.Prelude.bit_or, proofs.Common.◌∙◌, proofs.Common.ap}
+use Rattle.of_headers.{specs.Numbers.numbers_in, proofs.PresenceLemmas.fields_with, proofs.PresenceLemmas.absent_with, proofs.PresenceLemmas.value_with}
 use Rattle.of_headers.proofs.key.FieldKey.with.Goals as goal
 
 pub invariant_of-result : goal.invariant_of-result

@@ -1,14 +1,9 @@
 use Rattle.std.proofs.Common.{◌≡◌, Option, [], ◌∷◌, ◌+◌, ◌*◌, ◌^◌, ◌%◌, ◌<◌, ◌≤◌, length, drop, ap, ◌∙◌, arith}
-use Rattle.std.proofs.lemmas.List.{length-drop}
-use Rattle.std.specs.Option.{option_or}
-use Rattle.of_layers.specs.declared.place.Place.{Place}
-use Rattle.of_layers.specs.Fields.{number_of}
-use Rattle.of_layers.specs.Layers.{cells_in, ether_type, tag_cells, body_cells}
-use Rattle.of_layers.specs.Reading.{word, six, tags_of}
+use Rattle.std.{specs.Option.option_or, proofs.lemmas.List.length-drop}
+use Rattle.of_layers.specs.{declared.place.Place.Place, Fields.number_of, Layers.cells_in, Layers.ether_type, Layers.tag_cells, Layers.body_cells, Reading.word, Reading.six, Reading.tags_of}
 use Rattle.of_layers.specs.Looking.{locate_at}
-use Rattle.of_headers.specs.Places.{width}
-use Rattle.of_headers.proofs.KeyLemmas.{StandsAt, stands, packet_of}
 use Rattle.of_headers.proofs.PlaceLemmas.{place_frame, no_tags, some_tags, width_body, behind_at}
+use Rattle.of_headers.{specs.Places.width, proofs.KeyLemmas.StandsAt, proofs.KeyLemmas.stands, proofs.KeyLemmas.packet_of}
 use Rattle.of_headers.proofs.layout.Layout.place.Goals.{then-self-eq0, else-self-eq0}
 use Rattle.of_headers.proofs.layout.Layout.place.Goals as goal
 

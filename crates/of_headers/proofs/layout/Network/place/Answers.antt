@@ -1,13 +1,9 @@
 use Rattle.std.proofs.Common.{◌≡◌, ◌+◌, ◌*◌, ◌^◌, ◌%◌, ◌<◌, ◌≤◌, length, drop, sym, ap, ◌∙◌, arith}
 use Rattle.std.proofs.lemmas.List.{length-drop}
-use Rattle.of_layers.specs.Fields.{number_of}
-use Rattle.of_layers.specs.Layers.{Body, cells_in, items_of, body_cells}
-use Rattle.of_layers.specs.Reading.{numbers_of}
-use Rattle.of_layers.specs.Looking.{locate_at}
-use Rattle.of_headers.specs.Places.{width}
-use Rattle.of_headers.proofs.CarriedLemmas.{IsIpv4Payload, ipv4_payload}
+use Rattle.of_layers.specs.{Fields.number_of, Layers.Body, Layers.cells_in, Layers.items_of, Layers.body_cells, Reading.numbers_of, Looking.locate_at}
 use Rattle.of_headers.proofs.KeyLemmas.{IsIpv4At, ipv4_at, IsIpv6At, ipv6_at, IsIpv6Payload, ipv6_payload}
 use Rattle.of_headers.proofs.PlaceLemmas.{place_plain, place_arp, place_ipv4, place_ipv6, width_carried, behind_at}
+use Rattle.of_headers.{specs.Places.width, proofs.CarriedLemmas.IsIpv4Payload, proofs.CarriedLemmas.ipv4_payload}
 use Rattle.of_headers.proofs.layout.Network.place.Goals as goal
 
 pub returns-in-Plain : goal.returns-in-Plain

@@ -1,5 +1,4 @@
-use Rattle.of_history.specs.Selected.{entry_selected}
-use Rattle.of_history.proofs.EntryLemmas.{entry_more, no_entry}
+use Rattle.of_history.{specs.Selected.entry_selected, proofs.EntryLemmas.entry_more, proofs.EntryLemmas.no_entry}
 use Rattle.of_history.proofs.entries.EntriesView.push_entries.Goals as goal
 
 pub loop-entry-preserved : goal.loop-entry-preserved

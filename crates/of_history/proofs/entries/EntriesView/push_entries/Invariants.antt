@@ -1,5 +1,4 @@
-use Rattle.std.proofs.Common.{◌≡◌, ◌++◌}
-use Rattle.std.specs.List.{flat_map}
+use Rattle.std.{specs.List.flat_map, proofs.Common.◌≡◌, proofs.Common.◌++◌}
 use Rattle.of_table.specs.Entries.{flows_of}
 use Rattle.of_history.specs.Selected.{entry_selected}
 use Rattle.of_history.proofs.entries.EntriesView.push_entries.Given as goal

@@ -1,7 +1,5 @@
 use Rattle.of_switch.specs.Calls.{feed_refusal}
-use Rattle.of_history.specs.Causes.{Row}
-use Rattle.of_history.specs.Changes.{row_cause}
-use Rattle.of_history.proofs.TurnLemmas.{chunk_told}
+use Rattle.of_history.{specs.Causes.Row, specs.Changes.row_cause, proofs.TurnLemmas.chunk_told}
 use Rattle.of_history.proofs.watching.Watching.tell_chunk.Goals as goal
 
 pub returns-in-Ok-clause-said : goal.returns-in-Ok-clause-said

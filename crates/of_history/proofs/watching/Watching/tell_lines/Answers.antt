@@ -2,8 +2,8 @@ use Rattle.std.proofs.Common.{◌≡◌, None, Some, sym, ◌∙◌, ap, arith}
 use Rattle.std.specs.Option.{option_map}
 use Rattle.of_text.proofs.LineLemmas.{some_bytes, no_bytes}
 use Rattle.of_replay.specs.Rows.{row_of_line, with_bytes}
-use Rattle.of_history.specs.Changes.{history_of}
 use Rattle.of_history.proofs.LogLemmas.{bad_here, none_bad, row_passed, said_all, said_bad, said_more}
+use Rattle.of_history.specs.Changes.{history_of}
 use Rattle.of_history.proofs.watching.Watching.tell_lines.Goals as goal
 
 pub returns-in_default-clause-said : goal.returns-in_default-clause-said

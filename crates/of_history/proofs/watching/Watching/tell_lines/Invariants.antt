@@ -1,8 +1,7 @@
 use Rattle.std.proofs.Common.{◌≡◌, ◌+◌, ◌++◌, ◌≤◌, length}
 use Rattle.of_text.specs.Lines.{lines_of}
 use Rattle.of_replay.specs.RowTexts.{told, told_from}
-use Rattle.of_history.specs.Changes.{bad_from, history_of}
-use Rattle.of_history.specs.Sights.{sight_text}
+use Rattle.of_history.specs.{Changes.bad_from, Changes.history_of, Sights.sight_text}
 use Rattle.of_history.proofs.watching.Watching.tell_lines.Given as goal
 
 abbrev pub invariant-loop-rest : goal.invariant-loop-rest

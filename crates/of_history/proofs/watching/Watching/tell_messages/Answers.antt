@@ -1,10 +1,7 @@
 use Rattle.std.proofs.Common.{◌≡◌, ◌+◌, ◌++◌, [], Some, refl, ◌∙◌, ap, arith}
-use Rattle.of_switch.specs.Steps.{gives}
-use Rattle.of_switch.proofs.Draining.{next_shorter}
-use Rattle.of_history.specs.Causes.{Message, Row}
-use Rattle.of_history.specs.Changes.{told_change, row_cause}
+use Rattle.of_switch.{specs.Steps.gives, proofs.Draining.next_shorter}
+use Rattle.of_history.specs.{Causes.Message, Causes.Row, Changes.told_change, Changes.row_cause, Sights.sight_text}
 use Rattle.of_history.proofs.TurnLemmas.{telling_all, telling_more}
-use Rattle.of_history.specs.Sights.{sight_text}
 use Rattle.of_history.proofs.watching.Watching.tell_messages.Goals as goal
 
 pub loop-message-smaller : goal.loop-message-smaller

@@ -1,8 +1,5 @@
 use Rattle.std.proofs.Common.{◌≡◌, ◌+◌, ◌≤◌, [], length}
-use Rattle.of_history.specs.Causes.{Row}
-use Rattle.of_history.specs.Changes.{row_cause}
-use Rattle.of_history.proofs.TurnLemmas.{Telling}
-use Rattle.of_history.specs.Sights.{sight_text}
+use Rattle.of_history.{specs.Causes.Row, specs.Changes.row_cause, specs.Sights.sight_text, proofs.TurnLemmas.Telling}
 use Rattle.of_history.proofs.watching.Watching.tell_messages.Given as goal
 
 abbrev pub invariant-loop-message : goal.invariant-loop-message

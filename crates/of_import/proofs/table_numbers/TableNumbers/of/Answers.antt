@@ -1,8 +1,6 @@
-use Rattle.std.proofs.Common.{ap, ◌-◌, arith}
-use Rattle.std.specs.Prelude.{map}
-use Rattle.of_import.specs.ParsedLinesViews.{view_flow_line}
-use Rattle.of_import.specs.TableNumbers.{TableNumbers}
+use Rattle.std.{specs.Prelude.map, proofs.Common.ap, proofs.Common.◌-◌, proofs.Common.arith}
 use Rattle.of_import.proofs.NumberLemmas.{count_more, count_start, moves_more, moves_start, numbers_made, numbers_more, numbers_start}
+use Rattle.of_import.specs.{ParsedLinesViews.view_flow_line, TableNumbers.TableNumbers}
 use Rattle.of_import.proofs.table_numbers.TableNumbers.of.Goals as goal
 
 pub loop-table-preserved : goal.loop-table-preserved

@@ -1,7 +1,5 @@
-use Rattle.std.proofs.Common.{◌≡◌, ◌++◌, ◌-◌, ◌≤◌}
-use Rattle.std.specs.Prelude.{map}
-use Rattle.of_import.specs.ParsedLinesViews.{view_flow_line}
-use Rattle.of_import.specs.TableNumbers.{count_from, moves_from, table_numbers_from}
+use Rattle.std.{specs.Prelude.map, proofs.Common.◌≡◌, proofs.Common.◌++◌, proofs.Common.◌-◌, proofs.Common.◌≤◌}
+use Rattle.of_import.specs.{ParsedLinesViews.view_flow_line, TableNumbers.count_from, TableNumbers.moves_from, TableNumbers.table_numbers_from}
 use Rattle.of_import.proofs.table_numbers.TableNumbers.of.Given as goal
 
 abbrev pub decreases-loop-table : goal.decreases-loop-table

@@ -1,7 +1,5 @@
 use Rattle.std.proofs.Common.{subst, ℕ}
-use Rattle.of_live.specs.Inputs.{came_of}
-use Rattle.of_live.specs.Working.{HandlesMessages}
-use Rattle.of_live.proofs.Messages.{begun_as, lost_as, hears_on}
+use Rattle.of_live.{specs.Inputs.came_of, specs.Working.HandlesMessages, proofs.Messages.begun_as, proofs.Messages.lost_as, proofs.Messages.hears_on}
 use Rattle.of_live.proofs.state.Live.hear.Goals as goal
 
 pub returns-clause-hears : goal.returns-clause-hears

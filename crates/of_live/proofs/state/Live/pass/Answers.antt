@@ -1,7 +1,5 @@
 use Rattle.std.proofs.Common.{◌≡◌, ◌∙◌, ap, sym}
-use Rattle.of_live.specs.Live.{Live}
-use Rattle.of_live.specs.Inputs.{came_of}
-use Rattle.of_live.proofs.Turning.{passes_on, no_log}
+use Rattle.of_live.{specs.Live.Live, specs.Inputs.came_of, proofs.Turning.passes_on, proofs.Turning.no_log}
 use Rattle.of_live.proofs.state.Live.pass.Goals as goal
 
 pub returns-then-not-log-clause-passes : goal.returns-then-not-log-clause-passes

@@ -1,6 +1,5 @@
 use Rattle.std.proofs.Common.{◌∙◌, sym}
-use Rattle.of_live.specs.Inputs.{came_of}
-use Rattle.of_live.proofs.Turning.{goes}
+use Rattle.of_live.{specs.Inputs.came_of, proofs.Turning.goes}
 use Rattle.of_live.proofs.state.Live.turn.Goals as goal
 
 pub returns-clause-goes : goal.returns-clause-goes

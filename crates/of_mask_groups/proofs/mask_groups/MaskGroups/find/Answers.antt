@@ -1,12 +1,7 @@
 use Rattle.std.proofs.Common.{◌+◌, List, take, sym, ◌∙◌, ap, subst}
 use Rattle.of_headers.specs.FieldMap.{value}
-use Rattle.of_classifier.specs.declared.Row.{Row}
-use Rattle.of_classifier.specs.Winner.{winner_of, winner_number}
-use Rattle.of_mask_groups.specs.declared.group.Group.{Group}
-use Rattle.of_mask_groups.specs.Grouping.{AreGrouped}
-use Rattle.of_mask_groups.specs.Probing.{probes_of}
-use Rattle.of_mask_groups.proofs.Members.{in_take}
-use Rattle.of_mask_groups.proofs.Falling.{falling-take}
+use Rattle.of_classifier.specs.{declared.Row.Row, Winner.winner_of, Winner.winner_number}
+use Rattle.of_mask_groups.{specs.declared.group.Group.Group, specs.Grouping.AreGrouped, specs.Probing.probes_of, proofs.Members.in_take, proofs.Falling.falling-take}
 use Rattle.of_mask_groups.proofs.Winning.{answer_winner, answer_probes}
 use Rattle.of_mask_groups.proofs.mask_groups.MaskGroups.find.Goals as goal
 

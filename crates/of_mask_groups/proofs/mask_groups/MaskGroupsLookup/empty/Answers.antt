@@ -1,6 +1,5 @@
 use Rattle.std.proofs.Common.{List, Option, ap}
-use Rattle.of_mask_groups.specs.declared.entry.Entry.{Entry}
-use Rattle.of_mask_groups.specs.Aged.{at_age, by_age}
+use Rattle.of_mask_groups.specs.{declared.entry.Entry.Entry, Aged.at_age, Aged.by_age}
 use Rattle.of_mask_groups.proofs.mask_groups.MaskGroupsLookup.empty.Goals as goal
 
 pub returns : goal.returns

@@ -2,14 +2,8 @@ use Rattle.std.proofs.Common.{◌≡◌, ◌+◌, List, take, sym, ◌∙◌, ap
 use Rattle.of_layers.specs.declared.field.Field.{Field}
 use Rattle.of_headers.specs.FieldMap.{value}
 use Rattle.of_oxm.specs.Masks.{mask_at}
-use Rattle.of_classifier.specs.declared.Row.{Row}
-use Rattle.of_classifier.specs.Winner.{winner_of, winner_number}
-use Rattle.of_mask_groups.specs.declared.group.Group.{Group}
-use Rattle.of_mask_groups.specs.Grouping.{AreGrouped}
-use Rattle.of_mask_groups.specs.Probed.{groups_look}
-use Rattle.of_mask_groups.proofs.Members.{in_take}
-use Rattle.of_mask_groups.proofs.Winning.{answer_winner}
-use Rattle.of_mask_groups.proofs.Looking.{answer_region}
+use Rattle.of_classifier.specs.{declared.Row.Row, Winner.winner_of, Winner.winner_number}
+use Rattle.of_mask_groups.{specs.declared.group.Group.Group, specs.Grouping.AreGrouped, specs.Probed.groups_look, proofs.Members.in_take, proofs.Winning.answer_winner, proofs.Looking.answer_region}
 use Rattle.of_mask_groups.proofs.mask_groups.MaskGroupsLookup.region.Goals as goal
 
 pub returns-clause-answer : goal.returns-clause-answer

@@ -1,14 +1,9 @@
 use Rattle.std.proofs.Common.{◌≡◌, true, List, Some, refl, sym, ◌∙◌, ap, subst}
 use Rattle.slab.specs.Slab.{Slab, Updates}
 use Rattle.of_wire.specs.Numbered.{is_used, moved_to_end}
-use Rattle.of_classifier.specs.declared.Row.{Row}
-use Rattle.of_classifier.specs.Rows.{row_number}
-use Rattle.of_mask_groups.specs.declared.entry.Entry.{Entry}
-use Rattle.of_mask_groups.specs.Aged.{by_age, aged_entry}
-use Rattle.of_mask_groups.proofs.Numbers.{used_entry}
-use Rattle.of_mask_groups.proofs.Changing.{aged_more, rows_renewed}
-use Rattle.of_mask_groups.proofs.Holding.{grouped_renewed}
-use Rattle.of_mask_groups.proofs.SlabLemmas.{updates_with}
+use Rattle.of_classifier.specs.{declared.Row.Row, Rows.row_number}
+use Rattle.of_mask_groups.{specs.declared.entry.Entry.Entry, specs.Aged.by_age, specs.Aged.aged_entry, proofs.Numbers.used_entry, proofs.Changing.aged_more, proofs.Changing.rows_renewed}
+use Rattle.of_mask_groups.proofs.{Holding.grouped_renewed, SlabLemmas.updates_with}
 use Rattle.of_mask_groups.proofs.mask_groups.MaskGroupsLookup.renew.Goals as goal
 
 pub invariant_of-self : goal.invariant_of-self

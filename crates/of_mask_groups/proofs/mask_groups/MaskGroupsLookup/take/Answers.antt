@@ -1,7 +1,6 @@
 use Rattle.std.proofs.Common.{◌+◌, List, ◌∙◌, ap}
 use Rattle.of_wire.specs.Numbered.{without}
-use Rattle.of_classifier.specs.declared.Row.{Row}
-use Rattle.of_classifier.specs.Rows.{row_number}
+use Rattle.of_classifier.specs.{declared.Row.Row, Rows.row_number}
 use Rattle.of_mask_groups.proofs.Changing.{aged_less, rows_less}
 use Rattle.of_mask_groups.proofs.mask_groups.MaskGroupsLookup.take.Goals as goal
 

@@ -1,9 +1,7 @@
 use Rattle.std.proofs.Common.{◌≡◌, ◌∙◌, sym, true, ap}
-use Rattle.std.specs.Prelude.{map}
-use Rattle.std.specs.List.{list_all}
+use Rattle.std.specs.{Prelude.map, List.list_all}
 use Rattle.of_text.specs.Views.{view_bucket}
-use Rattle.of_ovs_lines.specs.PartialGroups.{bucket_fits}
-use Rattle.of_ovs_lines.proofs.SoundLemmas.{buckets_sound}
+use Rattle.of_ovs_lines.{specs.PartialGroups.bucket_fits, proofs.SoundLemmas.buckets_sound}
 use Rattle.of_ovs_lines.proofs.partial_group.PartialGroup.finish.Goals as goal
 
 pub returns-in-Some-Some-clause-fits : goal.returns-in-Some-Some-clause-fits

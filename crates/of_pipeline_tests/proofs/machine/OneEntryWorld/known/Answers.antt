@@ -1,9 +1,6 @@
 use Rattle.std.proofs.Common.{◌≡◌, ◌≢◌, ◌==◌, ℕ, Bool, true, false, cond, List, [], ◌∷◌, refl, arith, Some, None}
-use Rattle.std.specs.Prelude.{IsTrue}
-use Rattle.std.proofs.lemmas.Bool.Decides.{nat_tests}
-use Rattle.of_actions.specs.declared.action.Action.TheVariants.{Output}
-use Rattle.of_actions.specs.InstructionLists.{are_kept, are_for}
-use Rattle.of_actions.specs.Supported.{is_supported, are_supported}
+use Rattle.std.{specs.Prelude.IsTrue, proofs.lemmas.Bool.Decides.nat_tests}
+use Rattle.of_actions.specs.{declared.action.Action.TheVariants.Output, InstructionLists.are_kept, InstructionLists.are_for, Supported.is_supported, Supported.are_supported}
 use Rattle.of_table.specs.declared.flow.Flow.{Flow}
 use Rattle.of_pipeline_tests.proofs.machine.OneEntryWorld.known.Goals as goal
 

@@ -1,5 +1,4 @@
-use Rattle.of_ports.specs.declared.editing.Edit.TheVariants.{Configure}
-use Rattle.of_ports.proofs.PortLemmas.{sound_at}
+use Rattle.of_ports.{specs.declared.editing.Edit.TheVariants.Configure, proofs.PortLemmas.sound_at}
 use Rattle.of_ports.proofs.ports.Ports.configure.Goals as goal
 
 pub invariant_of-self : goal.invariant_of-self

@@ -1,5 +1,4 @@
-use Rattle.of_ports.specs.declared.editing.Edit.TheVariants.{Count}
-use Rattle.of_ports.proofs.PortLemmas.{sound_at}
+use Rattle.of_ports.{specs.declared.editing.Edit.TheVariants.Count, proofs.PortLemmas.sound_at}
 use Rattle.of_ports.proofs.ports.Ports.count.Goals as goal
 
 pub invariant_of-self : goal.invariant_of-self

@@ -1,5 +1,4 @@
-use Rattle.of_ports.specs.declared.editing.Edit.TheVariants.{Link}
-use Rattle.of_ports.proofs.PortLemmas.{sound_at}
+use Rattle.of_ports.{specs.declared.editing.Edit.TheVariants.Link, proofs.PortLemmas.sound_at}
 use Rattle.of_ports.proofs.ports.Ports.set_link.Goals as goal
 
 pub invariant_of-self : goal.invariant_of-self

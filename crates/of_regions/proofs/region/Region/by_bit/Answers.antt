@@ -1,13 +1,10 @@
 use Rattle.std.proofs.Common.{◌≡◌, Some, true, false}
 use Rattle.of_layers.specs.Fields.{ones_of}
 use Rattle.of_headers.specs.FieldMap.{value}
-use Rattle.of_oxm.specs.Masks.{mask_at}
-use Rattle.of_oxm.specs.Relations.{bits_looked_at}
-use Rattle.of_regions.specs.Dividing.{AreWithout}
-use Rattle.of_regions.specs.Known.{is_known_by, rule_in}
-use Rattle.of_regions.specs.Meeting.{is_apart, is_settled}
-use Rattle.of_regions.proofs.DividingLemmas.{crossing, some_left}
+use Rattle.of_oxm.specs.{Masks.mask_at, Relations.bits_looked_at}
 use Rattle.of_regions.proofs.LearningLemmas.{known_high, known_low, part_has, part_lacks, parts_all, parts_apart, parts_within, under_of}
+use Rattle.of_regions.specs.{Dividing.AreWithout, Known.is_known_by, Known.rule_in, Meeting.is_apart, Meeting.is_settled}
+use Rattle.of_regions.proofs.DividingLemmas.{crossing, some_left}
 use Rattle.of_regions.proofs.region.Region.by_bit.Goals as goal
 
 pub one_of-bit-requires : goal.one_of-bit-requires

@@ -2,8 +2,7 @@ use Rattle.std.proofs.Common.{◌≡◌, ◌∙◌, Option, None, ℕ, sym, inl,
 use Rattle.std.specs.Prelude.{◌⊎◌}
 use Rattle.of_headers.specs.FieldMap.{value}
 use Rattle.of_oxm.specs.Masks.{mask_at}
-use Rattle.of_regions.specs.Dividing.{IsDivision}
-use Rattle.of_regions.proofs.TaggingLemmas.{either_way, parts_either, unknown_untagged}
+use Rattle.of_regions.{specs.Dividing.IsDivision, proofs.TaggingLemmas.either_way, proofs.TaggingLemmas.parts_either, proofs.TaggingLemmas.unknown_untagged}
 use Rattle.of_regions.proofs.region.Region.divided.Goals as goal
 
 pub by_tag-requires : goal.by_tag-requires

@@ -3,11 +3,8 @@ use Rattle.std.specs.Prelude.{unwrap_or}
 use Rattle.of_layers.specs.Reading.{layers_of}
 use Rattle.of_headers.specs.FieldMap.{value}
 use Rattle.of_rewrite.specs.Frames.{IsFrame}
-use Rattle.of_frames.specs.declared.shape.Tagging.TheVariants.{Untagged}
-use Rattle.of_frames.specs.Given.{or_zero}
-use Rattle.of_frames.specs.Packets.{frame_given, frame_size, layers_given}
-use Rattle.of_regions.specs.Witness.{IsFrameIn}
-use Rattle.of_regions.proofs.WitnessLemmas.{frame_in, if_ok}
+use Rattle.of_frames.specs.{declared.shape.Tagging.TheVariants.Untagged, Given.or_zero, Packets.frame_given, Packets.frame_size, Packets.layers_given}
+use Rattle.of_regions.{specs.Witness.IsFrameIn, proofs.WitnessLemmas.frame_in, proofs.WitnessLemmas.if_ok}
 use Rattle.of_regions.proofs.region.Region.frame.Goals as goal
 
 pub returns : goal.returns

@@ -2,9 +2,7 @@ use Rattle.of_layers.specs.Fields.{ones_of}
 use Rattle.std.proofs.Common.{Some}
 use Rattle.of_headers.specs.FieldMap.{value}
 use Rattle.of_oxm.specs.Masks.{mask_at}
-use Rattle.of_regions.specs.Known.{rule_in}
-use Rattle.of_regions.proofs.BuildingLemmas.{known_within}
-use Rattle.of_regions.proofs.LearningLemmas.{set_known}
+use Rattle.of_regions.{specs.Known.rule_in, proofs.BuildingLemmas.known_within, proofs.LearningLemmas.set_known}
 use Rattle.of_regions.proofs.region.Region.learned.Goals as goal
 
 pub with-requires : goal.with-requires

@@ -1,12 +1,9 @@
 use Rattle.std.proofs.Common.{◌≡◌, ◌∙◌, ◌≤◌, ℕ, List, Option, None, Some, true, false, get_or, length, take, refl, sym, ap, subst, arith}
-use Rattle.std.proofs.lemmas.List.{take_all}
-use Rattle.std.proofs.lemmas.List.Folds.{list_all_more}
+use Rattle.std.proofs.{lemmas.List.take_all, lemmas.List.Folds.list_all_more}
 use Rattle.of_layers.specs.declared.field.Field.TheVariants.{InPort}
-use Rattle.of_oxm.specs.declared.match_field.MatchField.{MatchField}
-use Rattle.of_oxm.specs.Relations.{agrees, matches_map}
-use Rattle.of_regions.specs.Narrowing.{is_tag_field}
-use Rattle.of_regions.specs.Regions.{InRegion, InOneRegion}
+use Rattle.of_oxm.specs.{declared.match_field.MatchField.MatchField, Relations.agrees, Relations.matches_map}
 use Rattle.of_regions.proofs.NarrowingLemmas.{all_at, all_before, any_at, both_true, each_true, known_unless_tag}
+use Rattle.of_regions.specs.{Narrowing.is_tag_field, Regions.InRegion, Regions.InOneRegion}
 use Rattle.of_regions.proofs.region.Region.with_conditions.Goals as goal
 
 abbrev d : MatchField

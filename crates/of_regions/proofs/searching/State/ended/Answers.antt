@@ -1,6 +1,5 @@
 use Rattle.std.proofs.Common.{◌≡◌, None, subst}
-use Rattle.of_regions.specs.Searching.{IsState}
-use Rattle.of_regions.proofs.SearchLemmas.{none_received, taking}
+use Rattle.of_regions.{specs.Searching.IsState, proofs.SearchLemmas.none_received, proofs.SearchLemmas.taking}
 use Rattle.of_regions.proofs.searching.State.ended.Goals as goal
 
 pub returns-clause-found : goal.returns-clause-found

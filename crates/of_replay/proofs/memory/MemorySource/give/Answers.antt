@@ -1,6 +1,4 @@
-use Rattle.std.proofs.Common.{arith}
-use Rattle.std.specs.List.{sum}
-use Rattle.std.proofs.lemmas.List.{length-take}
+use Rattle.std.{specs.List.sum, proofs.Common.arith, proofs.lemmas.List.length-take}
 use Rattle.of_replay.proofs.MemoryLemmas.{told-more, read-front}
 use Rattle.of_replay.proofs.memory.MemorySource.give.Goals as goal
 

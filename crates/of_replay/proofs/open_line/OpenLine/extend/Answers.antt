@@ -1,6 +1,5 @@
 use Rattle.std.proofs.Common.{◌≡◌, ◌≤◌, ◌-◌, ◌++◌, ℕ, List, Result, Ok, Err, ◌∙◌, ap, take, length, vec_len, rules}
-use Rattle.std.specs.Prelude.{OnOk, if◌then◌else◌}
-use Rattle.std.specs.Result.{is_ok}
+use Rattle.std.specs.{Prelude.OnOk, Prelude.if◌then◌else◌, Result.is_ok}
 use Rattle.of_replay.proofs.Cutting.{kept_part}
 use Rattle.of_replay.proofs.open_line.OpenLine.extend.Goals as goal
 

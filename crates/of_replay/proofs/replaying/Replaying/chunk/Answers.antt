@@ -1,5 +1,4 @@
-use Rattle.of_replay.proofs.Early.{grows_grows}
-use Rattle.of_replay.proofs.WholeRuns.{flushed}
+use Rattle.of_replay.proofs.{Early.grows_grows, WholeRuns.flushed}
 use Rattle.of_replay.proofs.replaying.Replaying.chunk.Goals as goal
 use Rattle.std.proofs.Common.{◌++◌}
 

@@ -1,8 +1,7 @@
 use Rattle.std.proofs.lemmas.Result.{err_from_is_err_and}
-use Rattle.of_replay.specs.Rows.{row_of_line}
-use Rattle.of_replay.proofs.Lines.{line_kept, line_flushed, line_unwritten}
-use Rattle.of_replay.proofs.replaying.Replaying.line.Goals as goal
+use Rattle.of_replay.{specs.Rows.row_of_line, proofs.Lines.line_kept, proofs.Lines.line_flushed, proofs.Lines.line_unwritten}
 use Rattle.of_replay.proofs.replaying.Replaying.line.Goals.{then-has_part+in_ok-flush, else-has_part}
+use Rattle.of_replay.proofs.replaying.Replaying.line.Goals as goal
 
 pub returns-in_err-flush-clause-goes : goal.returns-in_err-flush-clause-goes
 returns-in_err-flush-clause-goes g c =

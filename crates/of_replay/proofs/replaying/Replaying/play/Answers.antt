@@ -1,6 +1,5 @@
 use Rattle.std.proofs.lemmas.Result.{err_from_is_err_and}
-use Rattle.of_replay.proofs.Early.{early_more}
-use Rattle.of_replay.proofs.WholeRuns.{tells_unwritten, tells_wrote, not_write}
+use Rattle.of_replay.proofs.{Early.early_more, WholeRuns.tells_unwritten, WholeRuns.tells_wrote, WholeRuns.not_write}
 use Rattle.of_replay.proofs.replaying.Replaying.play.Goals as goal
 
 pub returns-in_err-flush-clause-plays : goal.returns-in_err-flush-clause-plays

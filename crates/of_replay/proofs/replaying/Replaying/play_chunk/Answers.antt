@@ -1,7 +1,6 @@
-use Rattle.std.proofs.Common.{◌++◌, drop, arith}
-use Rattle.std.proofs.lemmas.Result.{err_from_is_err_and}
-use Rattle.of_replay.proofs.Early.{grows_none, grows_grows}
+use Rattle.std.proofs.{Common.◌++◌, Common.drop, Common.arith, lemmas.Result.err_from_is_err_and}
 use Rattle.of_replay.proofs.Lines.{chunk_begun, within_waits, chunk_over, chunk_place, chunk_line, chunk_halts}
+use Rattle.of_replay.proofs.Early.{grows_none, grows_grows}
 use Rattle.of_replay.proofs.replaying.Replaying.play_chunk.Goals as goal
 
 pub loop-len-init : goal.loop-len-init

@@ -1,7 +1,6 @@
 use Rattle.std.proofs.Common.{◌≡◌, ◌≤◌, ◌+◌, ◌-◌, ◌++◌, ℕ, List, [], Option, length, drop}
 use Rattle.of_switch.specs.State.{State}
-use Rattle.of_replay.specs.Stepping.{Within, WithinChunk}
-use Rattle.of_replay.specs.Transfer.{Grows}
+use Rattle.of_replay.specs.{Stepping.Within, Stepping.WithinChunk, Transfer.Grows}
 use Rattle.of_replay.proofs.replaying.Replaying.play_chunk.Given as goal
 
 abbrev pub invariant-loop-len : goal.invariant-loop-len

@@ -1,9 +1,8 @@
 use Rattle.std.proofs.Common.{◌≡◌, arith, refl, length, take}
 use Rattle.std.proofs.lemmas.Result.{err_from_is_err_and}
-use Rattle.of_replay.specs.Told.{Gave, Ended, Failed, given}
-use Rattle.of_replay.proofs.TellingLemmas.{gave_front}
-use Rattle.of_replay.proofs.Early.{early_none, early_read, grows_none}
 use Rattle.of_replay.proofs.WholeRuns.{read_begun, read_idle, read_chunk, read_halts, read_ends, read_played, read_stops, chunk_size, chunk_reads}
+use Rattle.of_replay.{specs.Told.Gave, specs.Told.Ended, specs.Told.Failed, specs.Told.given, proofs.TellingLemmas.gave_front}
+use Rattle.of_replay.proofs.Early.{early_none, early_read, grows_none}
 use Rattle.of_replay.proofs.replaying.Replaying.read.Goals as goal
 
 pub loop-init : goal.loop-init

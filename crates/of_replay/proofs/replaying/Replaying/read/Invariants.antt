@@ -1,7 +1,5 @@
 use Rattle.std.proofs.Common.{◌≡◌, ◌≤◌, ◌+◌, ◌*◌, []}
-use Rattle.of_replay.specs.Play.{WrittenEarly}
-use Rattle.of_replay.specs.RowTexts.{told}
-use Rattle.of_replay.specs.Stepping.{ReadSoFar}
+use Rattle.of_replay.specs.{Play.WrittenEarly, RowTexts.told, Stepping.ReadSoFar}
 use Rattle.of_replay.proofs.replaying.Replaying.read.Given as goal
 
 abbrev pub invariant-loop : goal.invariant-loop

@@ -1,5 +1,4 @@
-use Rattle.std.proofs.Common.{◌≡◌, ◌+◌}
-use Rattle.std.specs.Io.KnownBytes.{Keeps}
+use Rattle.std.{specs.Io.KnownBytes.Keeps, proofs.Common.◌≡◌, proofs.Common.◌+◌}
 use Rattle.of_replay.proofs.streams.ReaderSourceSource.read.Given as goal
 
 abbrev pub invariant-loop : goal.invariant-loop

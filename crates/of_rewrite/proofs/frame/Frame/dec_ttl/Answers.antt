@@ -1,8 +1,7 @@
 use Rattle.std.proofs.Common.{◌≡◌, sym, ◌∙◌, ap, List, ℕ, length}
 use Rattle.of_layers.specs.Reading.{layers_of}
 use Rattle.of_headers.specs.Places.{layout_of}
-use Rattle.of_rewrite.specs.Right.{StayOff, StayRight}
-use Rattle.of_rewrite.specs.TimeToLive.{layers_ttl_decremented, ttl_of}
+use Rattle.of_rewrite.specs.{Right.StayOff, Right.StayRight, TimeToLive.layers_ttl_decremented, TimeToLive.ttl_of}
 use Rattle.of_rewrite.proofs.KeptPlaces.{kept, stays_aged, written}
 use Rattle.of_rewrite.proofs.frame.Frame.dec_ttl.Goals as goal
 

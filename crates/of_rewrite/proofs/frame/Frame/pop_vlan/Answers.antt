@@ -1,11 +1,8 @@
 use Rattle.std.proofs.Common.{◌≡◌, ◌≤◌, ◌<◌, ◌^◌, true, arith, sym, ap, ◌∙◌, subst, List, ℕ, length, take, drop, ◌++◌}
 use Rattle.std.proofs.lemmas.List.{length-append, length-take-le, length-drop}
-use Rattle.of_layers.specs.Reading.{layers_of}
-use Rattle.of_layers.specs.WellFormed.{AreBytes}
+use Rattle.of_layers.specs.{Reading.layers_of, WellFormed.AreBytes}
 use Rattle.of_headers.specs.Tags.{popped}
-use Rattle.of_rewrite.specs.Frames.{frame_popped}
-use Rattle.of_rewrite.specs.Tagging.{has_tag}
-use Rattle.of_rewrite.proofs.TagPut.{untagged_pops, pop_is, Tagged, is_tagged}
+use Rattle.of_rewrite.{specs.Frames.frame_popped, specs.Tagging.has_tag, proofs.TagPut.untagged_pops, proofs.TagPut.pop_is, proofs.TagPut.Tagged, proofs.TagPut.is_tagged}
 use Rattle.of_rewrite.proofs.TagFrames.{Popped, tag_popped, none_popped}
 use Rattle.of_rewrite.proofs.frame.Frame.pop_vlan.Goals as goal
 

@@ -1,11 +1,7 @@
 use Rattle.std.proofs.Common.{◌≡◌, ap, ◌∙◌, subst, true, List, ℕ, length, ◌+◌, ◌/◌, ◌%◌, ◌^◌, ◌<◌, ◌≤◌, arith, rules}
-use Rattle.of_layers.specs.Reading.{layers_of, is_tag_type}
-use Rattle.of_layers.specs.WellFormed.{AreBytes}
+use Rattle.of_layers.specs.{Reading.layers_of, Reading.is_tag_type, WellFormed.AreBytes}
 use Rattle.of_headers.specs.Tags.{pushed}
-use Rattle.of_rewrite.specs.Tagging.{control_in}
-use Rattle.of_rewrite.proofs.KeptPlaces.{tags_room}
-use Rattle.of_rewrite.proofs.TagPut.{four, push_is, tagged}
-use Rattle.of_rewrite.proofs.TagFrames.{Pushed, tag_pushed}
+use Rattle.of_rewrite.{specs.Tagging.control_in, proofs.KeptPlaces.tags_room, proofs.TagPut.four, proofs.TagPut.push_is, proofs.TagPut.tagged, proofs.TagFrames.Pushed, proofs.TagFrames.tag_pushed}
 use Rattle.of_rewrite.proofs.frame.Frame.push_vlan.Goals as goal
 
 -- the frame `old`, whose bytes `read` are looked at, once there is room for a tag in `before`

@@ -1,10 +1,7 @@
 use Rattle.std.proofs.Common.{◌≡◌, sym, ◌∙◌, ap, List, ℕ, length}
-use Rattle.of_layers.specs.Fields.{number_of}
-use Rattle.of_layers.specs.Reading.{layers_of}
+use Rattle.of_layers.specs.{Fields.number_of, Reading.layers_of}
 use Rattle.of_headers.specs.Places.{layout_of}
-use Rattle.of_rewrite.specs.Replaced.{layers_set}
-use Rattle.of_rewrite.specs.Right.{StayOff, StayRight}
-use Rattle.of_rewrite.proofs.KeptPlaces.{kept, stays_set, written}
+use Rattle.of_rewrite.{specs.Replaced.layers_set, specs.Right.StayOff, specs.Right.StayRight, proofs.KeptPlaces.kept, proofs.KeptPlaces.stays_set, proofs.KeptPlaces.written}
 use Rattle.of_rewrite.proofs.frame.Frame.set.Goals as goal
 
 pub invariant_of-self : goal.invariant_of-self

@@ -1,8 +1,7 @@
 use Rattle.std.proofs.Common.{◌∙◌, ap, refl, sym, List}
 use Rattle.of_switch.specs.declared.event.Event.{Event}
-use Rattle.of_serve.specs.Turns.{gathered}
 use Rattle.of_serve.proofs.TurnLemmas.{due_none, left_none, due_waits, left_waits, left_acts, row_acts}
-use Rattle.of_serve.proofs.CutLemmas.{due_begun, due_more, due_cut, on_err}
+use Rattle.of_serve.{specs.Turns.gathered, proofs.CutLemmas.due_begun, proofs.CutLemmas.due_more, proofs.CutLemmas.due_cut, proofs.CutLemmas.on_err}
 use Rattle.of_serve.proofs.gathering.Gathering.due.Goals as goal
 
 pub returns-then-waits-clause-rest : goal.returns-then-waits-clause-rest

@@ -1,6 +1,5 @@
 use Rattle.std.proofs.Common.{◌≡◌, length}
-use Rattle.of_serve.specs.Turns.{due, left, gathered}
-use Rattle.of_serve.proofs.CutLemmas.{DueSoFar}
+use Rattle.of_serve.{specs.Turns.due, specs.Turns.left, specs.Turns.gathered, proofs.CutLemmas.DueSoFar}
 use Rattle.of_serve.proofs.gathering.Gathering.due.Given as goal
 
 abbrev pub invariant-loop-row : goal.invariant-loop-row

@@ -1,6 +1,5 @@
 use Rattle.std.proofs.Common.{subst, true}
-use Rattle.of_serve.specs.Turns.{Gathered}
-use Rattle.of_serve.specs.Gathering.{HandlesNext, LosesNext}
+use Rattle.of_serve.specs.{Turns.Gathered, Gathering.HandlesNext, Gathering.LosesNext}
 use Rattle.of_serve.proofs.CutLemmas.{holding, lost_next, next_handled, on_err}
 use Rattle.of_serve.proofs.gathering.Gathering.handle_next.Goals as goal
 

@@ -1,8 +1,7 @@
 use Rattle.std.proofs.Common.{ap, subst, ◌∷◌, []}
 use Rattle.of_switch.specs.State.{State}
-use Rattle.of_serve.specs.Turns.{Gathered}
-use Rattle.of_serve.specs.Gathering.{CutIn}
 use Rattle.of_serve.proofs.CutLemmas.{holding, cut_begun, lost_behind, on_err, stopped}
+use Rattle.of_serve.specs.{Turns.Gathered, Gathering.CutIn}
 use Rattle.of_serve.proofs.gathering.Gathering.happen.Goals as goal
 
 pub returns-in_err-run-clause-err : goal.returns-in_err-run-clause-err

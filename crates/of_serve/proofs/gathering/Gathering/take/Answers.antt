@@ -1,8 +1,6 @@
 use Rattle.std.proofs.Common.{subst, refl, ◌∷◌, []}
 use Rattle.of_switch.specs.declared.event.Event.TheVariants.{Chunk}
-use Rattle.of_serve.specs.Turns.{Gathered}
-use Rattle.of_serve.specs.Gathering.{CutIn}
-use Rattle.of_serve.proofs.CutLemmas.{holding, not_fed, take_cut}
+use Rattle.of_serve.{specs.Turns.Gathered, specs.Gathering.CutIn, proofs.CutLemmas.holding, proofs.CutLemmas.not_fed, proofs.CutLemmas.take_cut}
 use Rattle.of_serve.proofs.gathering.Gathering.take.Goals as goal
 
 pub returns-in_err-feed-clause-memory : goal.returns-in_err-feed-clause-memory

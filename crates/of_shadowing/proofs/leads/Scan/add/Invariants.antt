@@ -1,5 +1,4 @@
-use Rattle.std.proofs.Common.{◌≡◌, take}
-use Rattle.std.specs.List.{fold}
+use Rattle.std.{specs.List.fold, proofs.Common.◌≡◌, proofs.Common.take}
 use Rattle.of_shadowing.specs.Leads.{view_scan, with_byte}
 use Rattle.of_shadowing.proofs.leads.Scan.add.Given as goal
 

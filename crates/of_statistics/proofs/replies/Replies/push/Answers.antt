@@ -1,9 +1,8 @@
 use Rattle.std.proofs.Common.{◌≡◌, ◌≤◌, ◌<◌, ◌+◌, ℕ, List, [], ◌∷◌, ◌++◌, length, drop, ap, ◌∙◌, arith}
 use Rattle.std.specs.Prelude.{replicate}
-use Rattle.of_statistics.specs.Replies.{reply, more}
-use Rattle.of_statistics.proofs.Sealing.{row_fits, row_begins}
-use Rattle.of_statistics.proofs.replies.Replies.push.Goals as goal
+use Rattle.of_statistics.{specs.Replies.reply, specs.Replies.more, proofs.Sealing.row_fits, proofs.Sealing.row_begins}
 use Rattle.of_statistics.proofs.replies.Replies.push.Goals.{then-len-row-gt-MOST+in_ok-begun+in_ok-push, else-len-row-gt-MOST}
+use Rattle.of_statistics.proofs.replies.Replies.push.Goals as goal
 
 pub returns : goal.returns
 returns c =

@@ -1,7 +1,5 @@
 use Rattle.of_switch.specs.declared.event.Report.TheVariants as reported
-use Rattle.of_switch.specs.Runs.{reports_of}
-use Rattle.of_switch.specs.Steps.{gives}
-use Rattle.of_switch.proofs.Draining.{next_shorter, left_more}
+use Rattle.of_switch.{specs.Runs.reports_of, specs.Steps.gives, proofs.Draining.next_shorter, proofs.Draining.left_more}
 use Rattle.of_switch.proofs.Running.{reports_more, drains_all, drains_one, drains_two}
 use Rattle.of_switch.proofs.switch.Switch.drain.Goals as goal
 

@@ -1,5 +1,4 @@
-use Rattle.of_switch.specs.Runs.{reports_of}
-use Rattle.of_switch.proofs.Running.{on_err, runs_more, runs_stop, runs_wait}
+use Rattle.of_switch.{specs.Runs.reports_of, proofs.Running.on_err, proofs.Running.runs_more, proofs.Running.runs_stop, proofs.Running.runs_wait}
 use Rattle.of_switch.proofs.switch.Switch.run.Goals as goal
 
 pub returns-in_err-reserve-clause-err : goal.returns-in_err-reserve-clause-err

@@ -1,8 +1,5 @@
-use Rattle.std.proofs.Common.{refl}
-use Rattle.std.proofs.lemmas.Result.{err_from_is_err_and}
-use Rattle.of_switch.specs.Steps.{group_added}
-use Rattle.of_switch.proofs.StandingSteps.{group_put}
-use Rattle.of_switch.proofs.GroupHandling.{fault_or_memory}
+use Rattle.std.proofs.{Common.refl, lemmas.Result.err_from_is_err_and}
+use Rattle.of_switch.{specs.Steps.group_added, proofs.StandingSteps.group_put, proofs.GroupHandling.fault_or_memory}
 use Rattle.of_switch.proofs.switch_core.Core.add_group.Goals as goal
 
 pub returns-in_err-add : goal.returns-in_err-add

@@ -1,10 +1,6 @@
-use Rattle.std.proofs.Common.{◌∙◌, sym, refl}
-use Rattle.std.proofs.lemmas.Result.{IfOk-weaker}
-use Rattle.of_datapath.specs.Buffers.{used}
-use Rattle.of_datapath.specs.Numbers.{forwarding_of}
-use Rattle.of_switch.proofs.HeldHandling.{begun_is}
-use Rattle.of_datapath.proofs.StandingLemmas.{held_stands, through_stands}
-use Rattle.of_switch.proofs.StandingSteps.{called_stands}
+use Rattle.std.proofs.{Common.◌∙◌, Common.sym, Common.refl, lemmas.Result.IfOk-weaker}
+use Rattle.of_datapath.{specs.Buffers.used, specs.Numbers.forwarding_of, proofs.StandingLemmas.held_stands, proofs.StandingLemmas.through_stands}
+use Rattle.of_switch.proofs.{HeldHandling.begun_is, StandingSteps.called_stands}
 use Rattle.of_switch.proofs.switch_core.Core.begin.Goals as goal
 
 pub invariant_of-self : goal.invariant_of-self

@@ -1,6 +1,4 @@
-use Rattle.of_datapath.specs.Numbers.{forwarding_of}
-use Rattle.of_datapath.specs.Datapath.{framed}
-use Rattle.of_datapath.proofs.StandingLemmas.{framed_stands}
+use Rattle.of_datapath.{specs.Numbers.forwarding_of, specs.Datapath.framed, proofs.StandingLemmas.framed_stands}
 use Rattle.of_switch.proofs.StandingSteps.{called_stands}
 use Rattle.of_switch.proofs.switch_core.Core.frame.Goals as goal
 

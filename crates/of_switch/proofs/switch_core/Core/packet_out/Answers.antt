@@ -1,12 +1,7 @@
 use Rattle.std.proofs.Common.{◌≡◌, refl}
-use Rattle.of_datapath.specs.Commands.{without_packet}
-use Rattle.of_datapath.specs.Numbers.{forwarding_of}
-use Rattle.of_datapath.specs.Applying.{without_used}
-use Rattle.of_switch.proofs.HeldHandling.{out_is}
-use Rattle.of_datapath.proofs.StandingLemmas.{held_stands, through_stands}
-use Rattle.of_switch.proofs.StandingSteps.{called_stands}
+use Rattle.of_datapath.{specs.Commands.without_packet, specs.Numbers.forwarding_of, specs.Applying.without_used, proofs.StandingLemmas.held_stands, proofs.StandingLemmas.through_stands}
+use Rattle.of_switch.proofs.{HeldHandling.out_is, StandingSteps.called_stands, switch_core.Core.packet_out.Goals.in-Buffered, switch_core.Core.packet_out.Goals.in-Frame}
 use Rattle.of_switch.proofs.switch_core.Core.packet_out.Goals as goal
-use Rattle.of_switch.proofs.switch_core.Core.packet_out.Goals.{in-Buffered, in-Frame}
 
 pub invariant_of-self-2 : goal.invariant_of-self-2
 invariant_of-self-2 g c =

@@ -1,6 +1,5 @@
 use Rattle.std.proofs.Common.{◌≡◌, ◌∙◌, sym, ap, refl, Some, true, false, not}
-use Rattle.std.specs.Option.{option_copied}
-use Rattle.std.specs.Str.{bytes_eq}
+use Rattle.std.specs.{Option.option_copied, Str.bytes_eq}
 use Rattle.of_ports.specs.Ports.{port_at}
 use Rattle.of_switch.proofs.PortHandling.{refused_absent, refused_other, not_refused}
 use Rattle.of_switch.proofs.switch_core.Core.port_mod.Goals as goal

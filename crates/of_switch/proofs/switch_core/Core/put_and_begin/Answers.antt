@@ -1,7 +1,6 @@
 use Rattle.std.proofs.Common.{◌∙◌, sym, ap, subst}
-use Rattle.of_switch.specs.State.{Core}
+use Rattle.of_switch.{specs.State.Core, proofs.HeldHandling.taken_back}
 use Rattle.of_datapath.specs.Standing.{GroupsExist}
-use Rattle.of_switch.proofs.HeldHandling.{taken_back}
 use Rattle.of_switch.proofs.switch_core.Core.put_and_begin.Goals as goal
 
 pub invariant_of-self : goal.invariant_of-self

@@ -1,7 +1,5 @@
 use Rattle.std.proofs.lemmas.Result.{IfOk-weaker}
-use Rattle.of_symbolic.specs.Branching.{IsPartBehind}
-use Rattle.of_symbolic.specs.Parts.{IsUnmatchedPart}
-use Rattle.of_symbolic.proofs.BranchLemmas.{behind_matched}
+use Rattle.of_symbolic.{specs.Branching.IsPartBehind, specs.Parts.IsUnmatchedPart, proofs.BranchLemmas.behind_matched}
 use Rattle.of_symbolic.proofs.part.Part.behind.Goals as goal
 
 pub returns-in-Some : goal.returns-in-Some

@@ -1,7 +1,5 @@
 use Rattle.std.proofs.Common.{◌≡◌, ℕ, length, subst, arith}
-use Rattle.of_symbolic.specs.Branching.{IsPartBehindAll}
-use Rattle.of_symbolic.proofs.BranchLemmas.{behind_more, behind_none}
-use Rattle.of_symbolic.proofs.PartLemmas.{at_index}
+use Rattle.of_symbolic.{specs.Branching.IsPartBehindAll, proofs.BranchLemmas.behind_more, proofs.BranchLemmas.behind_none, proofs.PartLemmas.at_index}
 use Rattle.of_symbolic.proofs.part.Part.behind_all.Goals as goal
 
 pub loop-place-init : goal.loop-place-init

@@ -1,8 +1,6 @@
-use Rattle.std.proofs.Common.{sym}
-use Rattle.std.proofs.lemmas.Result.{IfOk-weaker}
+use Rattle.std.proofs.{Common.sym, lemmas.Result.IfOk-weaker}
 use Rattle.of_regions.specs.Searching.{IsFoundBySearch}
-use Rattle.of_symbolic.specs.Parts.{FindsInPart, HaveConditions}
-use Rattle.of_symbolic.proofs.FindLemmas.{finds, rivals_kept}
+use Rattle.of_symbolic.{specs.Parts.FindsInPart, specs.Parts.HaveConditions, proofs.FindLemmas.finds, proofs.FindLemmas.rivals_kept}
 use Rattle.of_symbolic.proofs.part.Part.find.Goals as goal
 
 pub search_among-requires : goal.search_among-requires

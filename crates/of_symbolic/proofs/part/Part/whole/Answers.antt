@@ -1,13 +1,9 @@
 use Rattle.std.proofs.Common.{◌≡◌, ◌++◌, ◌∷◌, Bool, List, [], ap, sym, subst, false, true, ◌∙◌}
-use Rattle.of_regions.specs.declared.region.Region.{Region}
-use Rattle.of_regions.specs.Narrowing.{AreNarrowed}
-use Rattle.of_regions.specs.Searching.{IsStart}
-use Rattle.of_symbolic.specs.declared.part.Part.{Part}
-use Rattle.of_symbolic.specs.InnerTags.{inner_tag_asked}
-use Rattle.of_symbolic.specs.Parts.{IsWholePart}
+use Rattle.of_regions.specs.{declared.region.Region.Region, Narrowing.AreNarrowed, Searching.IsStart}
+use Rattle.of_symbolic.specs.{declared.part.Part.Part, InnerTags.inner_tag_asked, Parts.IsWholePart}
 use Rattle.of_symbolic.proofs.WholeLemmas.{asked_conditions, no_metadata, whole_is, whole_told}
-use Rattle.of_symbolic.proofs.part.Part.whole.Goals as goal
 use Rattle.of_symbolic.proofs.part.Part.whole.Goals.{then-inner+in_ok-regions, else-inner}
+use Rattle.of_symbolic.proofs.part.Part.whole.Goals as goal
 
 pub narrowed-requires : goal.narrowed-requires
 narrowed-requires c = rw c.inner_tagged.ensures asked_conditions

@@ -2,8 +2,8 @@ use Rattle.std.proofs.Common.{◌≡◌, ◌∙◌, true}
 use Rattle.of_layers.specs.Reading.{layers_of}
 use Rattle.of_symbolic.specs.Parts.{may_tell}
 use Rattle.of_symbolic_run.proofs.InnerFrameLemmas.{nothing_put, number_put}
-use Rattle.of_symbolic_run.proofs.frame_set.FrameSet.described_by.Goals as goal
 use Rattle.of_symbolic_run.proofs.frame_set.FrameSet.described_by.Goals.{then-packet-ne0+in_ok-put_below, else-packet-ne0}
+use Rattle.of_symbolic_run.proofs.frame_set.FrameSet.described_by.Goals as goal
 
 pub returns-clause-is : goal.returns-clause-is
 returns-clause-is c =

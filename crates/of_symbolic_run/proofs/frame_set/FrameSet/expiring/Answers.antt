@@ -1,9 +1,7 @@
 use Rattle.std.proofs.Common.{◌∷◌, [], Option, sym, subst}
-use Rattle.of_oxm.specs.declared.match_field.MatchField.{MatchField}
-use Rattle.of_symbolic_run.specs.FrameSets.{AreFramesMatching, AreFramesThat}
-use Rattle.of_symbolic_run.specs.TimesToLive.{expires}
 use Rattle.std.specs.Prelude.{ℕ}
-use Rattle.of_symbolic_run.proofs.TtlFrameLemmas.{expiring_is, has_ttl}
+use Rattle.of_oxm.specs.declared.match_field.MatchField.{MatchField}
+use Rattle.of_symbolic_run.{specs.FrameSets.AreFramesMatching, specs.FrameSets.AreFramesThat, specs.TimesToLive.expires, proofs.TtlFrameLemmas.expiring_is, proofs.TtlFrameLemmas.has_ttl}
 use Rattle.of_symbolic_run.proofs.frame_set.FrameSet.expiring.Goals as goal
 
 pub up_to-requires : goal.up_to-requires

@@ -1,9 +1,7 @@
 use Rattle.std.proofs.Common.{◌≡◌, ◌∷◌, ◌++◌, ◌∙◌, [], List, Option, sym, ap, subst, ℕ}
-use Rattle.std.specs.Prelude.{not, IfOk, Some}
-use Rattle.std.proofs.lemmas.Result.{IfOk-weaker}
+use Rattle.std.{specs.Prelude.not, specs.Prelude.IfOk, specs.Prelude.Some, proofs.lemmas.Result.IfOk-weaker}
 use Rattle.of_oxm.specs.declared.match_field.MatchField.{MatchField}
-use Rattle.of_symbolic_run.specs.FrameSets.{AreFramesThat, AreFramesWithout}
-use Rattle.of_symbolic_run.specs.TimesToLive.{expires}
+use Rattle.of_symbolic_run.specs.{FrameSets.AreFramesThat, FrameSets.AreFramesWithout, TimesToLive.expires}
 use Rattle.of_symbolic_run.proofs.TtlFrameLemmas.{has_ttl, outliving_above, outliving_all, outliving_without}
 use Rattle.of_symbolic_run.proofs.frame_set.FrameSet.outliving.Goals as goal
 

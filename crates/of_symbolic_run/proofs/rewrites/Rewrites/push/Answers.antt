@@ -1,8 +1,6 @@
-use Rattle.std.proofs.Common.{sym, subst}
-use Rattle.std.specs.Prelude.{IsTrue}
+use Rattle.std.{specs.Prelude.IsTrue, proofs.Common.sym, proofs.Common.subst}
 use Rattle.of_actions.specs.declared.action.Action.{Action}
-use Rattle.of_symbolic_run.specs.Rewriting.{rewrites_frames}
-use Rattle.of_symbolic_run.proofs.StepLemmas.{is_rewriting, rewriting_more}
+use Rattle.of_symbolic_run.{specs.Rewriting.rewrites_frames, proofs.StepLemmas.is_rewriting, proofs.StepLemmas.rewriting_more}
 use Rattle.of_symbolic_run.proofs.rewrites.Rewrites.push.Goals as goal
 
 pub invariant_of-self-2 : goal.invariant_of-self-2

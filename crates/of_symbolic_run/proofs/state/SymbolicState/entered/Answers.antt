@@ -1,7 +1,6 @@
 use Rattle.std.proofs.Common.{[], ◌∷◌, ◌++◌, refl, ap, ◌∙◌}
 use Rattle.of_machine.specs.declared.data.Step.{Step}
-use Rattle.of_symbolic_run.specs.Cases.{found_flow}
-use Rattle.of_symbolic_run.proofs.CaseLemmas.{entered_is}
+use Rattle.of_symbolic_run.{specs.Cases.found_flow, proofs.CaseLemmas.entered_is}
 use Rattle.of_symbolic_run.proofs.state.SymbolicState.entered.Goals as goal
 
 pub returns : goal.returns

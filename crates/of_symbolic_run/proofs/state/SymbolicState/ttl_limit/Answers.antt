@@ -1,6 +1,5 @@
 use Rattle.std.proofs.Common.{ap, ◌∙◌}
-use Rattle.of_symbolic_run.specs.TimesToLive.{known_ttl, ttl_limit_of}
-use Rattle.of_symbolic_run.proofs.DecrementLemmas.{limit_is}
+use Rattle.of_symbolic_run.{specs.TimesToLive.known_ttl, specs.TimesToLive.ttl_limit_of, proofs.DecrementLemmas.limit_is}
 use Rattle.of_symbolic_run.proofs.state.SymbolicState.ttl_limit.Goals as goal
 
 pub returns : goal.returns

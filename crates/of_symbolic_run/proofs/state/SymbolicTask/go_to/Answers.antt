@@ -1,6 +1,5 @@
 use Rattle.std.proofs.Common.{refl, ap, ◌∙◌, ◌++◌, ◌∷◌, []}
-use Rattle.of_symbolic_run.specs.declared.state.Work.TheVariants.{Lookup}
-use Rattle.of_symbolic_run.proofs.StepLemmas.{goes}
+use Rattle.of_symbolic_run.{specs.declared.state.Work.TheVariants.Lookup, proofs.StepLemmas.goes}
 use Rattle.of_symbolic_run.proofs.state.SymbolicTask.go_to.Goals as goal
 
 pub returns : goal.returns

@@ -1,7 +1,6 @@
 use Rattle.std.proofs.Common.{refl, ap, ◌∙◌, ◌++◌, ◌∷◌, []}
 use Rattle.of_symbolic_run.specs.declared.state.Emission.TheVariants as emissions
-use Rattle.of_symbolic_run.specs.declared.state.SymbolicPacket.{SymbolicPacket}
-use Rattle.of_symbolic_run.proofs.StepLemmas.{outputs}
+use Rattle.of_symbolic_run.{specs.declared.state.SymbolicPacket.SymbolicPacket, proofs.StepLemmas.outputs}
 use Rattle.of_symbolic_run.proofs.state.SymbolicTask.output.Goals as goal
 
 pub returns : goal.returns

@@ -1,7 +1,5 @@
 use Rattle.std.proofs.Common.{◌≡◌, ◌≤◌, sym, ◌∙◌, length, false}
-use Rattle.of_table.specs.Table.{is_overlapped}
-use Rattle.of_table.specs.Entries.{flows_of}
-use Rattle.of_table.proofs.AddLemmas.{new_flow, fault_full, fault_old}
+use Rattle.of_table.{specs.Table.is_overlapped, specs.Entries.flows_of, proofs.AddLemmas.new_flow, proofs.AddLemmas.fault_full, proofs.AddLemmas.fault_old}
 use Rattle.of_table.proofs.flow_table.FlowTable.add.Goals as goal
 
 pub returns-in-Some-clause-fault : goal.returns-in-Some-clause-fault

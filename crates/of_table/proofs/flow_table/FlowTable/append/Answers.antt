@@ -1,16 +1,10 @@
 use Rattle.std.proofs.Common.{drop, length, arith, refl, ◌+◌, ◌≡◌, ◌∙◌, ◌++◌, ◌∷◌, [], false, sym, ap}
-use Rattle.std.specs.List.{list_any}
-use Rattle.std.proofs.lemmas.List.{map-append}
+use Rattle.std.{specs.List.list_any, proofs.lemmas.List.map-append}
 use Rattle.of_wire.specs.Numbered.{is_used}
 use Rattle.of_classifier.specs.Rows.{made_row, row_number}
-use Rattle.of_table.specs.Table.{FlowEntry, is_same, kept_flow}
-use Rattle.of_table.specs.Entries.{flows_of, classifier_row, rows_of, added_entries}
-use Rattle.of_table.proofs.Replaced.{one_behind, one_longer}
-use Rattle.of_table.proofs.AddLemmas.{appended, new_number, with_entries}
-use Rattle.of_table.specs.declared.selection.Cause.TheVariants.{Moment}
-use Rattle.of_table.specs.Deadlines.{all_stay}
-use Rattle.of_table.proofs.DeadlineLemmas.{added_none_over}
-use Rattle.of_table.proofs.Unlike.{unlike_with}
+use Rattle.of_table.specs.{Table.FlowEntry, Table.is_same, Table.kept_flow, Entries.flows_of, Entries.classifier_row, Entries.rows_of, Entries.added_entries}
+use Rattle.of_table.{specs.declared.selection.Cause.TheVariants.Moment, specs.Deadlines.all_stay, proofs.Replaced.one_behind, proofs.Replaced.one_longer}
+use Rattle.of_table.proofs.{AddLemmas.appended, AddLemmas.new_number, AddLemmas.with_entries, DeadlineLemmas.added_none_over, Unlike.unlike_with}
 use Rattle.of_table.proofs.flow_table.FlowTable.append.Goals as goal
 
 pub returns-clause-ok : goal.returns-clause-ok

@@ -1,8 +1,5 @@
 use Rattle.std.proofs.Common.{◌≡◌, ◌∙◌, List, drop, map, ap, arith}
-use Rattle.of_table.specs.Table.{FlowEntry}
-use Rattle.of_table.specs.Entries.{flows_of}
-use Rattle.of_table.specs.Sound.{entry_key, are_unlike}
-use Rattle.of_table.proofs.CopiedLemmas.{copies_stay}
+use Rattle.of_table.{specs.Table.FlowEntry, specs.Entries.flows_of, specs.Sound.entry_key, specs.Sound.are_unlike, proofs.CopiedLemmas.copies_stay}
 use Rattle.of_table.proofs.flow_table.FlowTable.copy.Goals as goal
 
 pub invariant_of-result : goal.invariant_of-result

@@ -1,9 +1,6 @@
 use Rattle.std.proofs.Common.{drop, ◌≡◌, ℕ, List, sym, ap, ◌∙◌, ◌%◌, ◌^◌, ◌+◌, arith}
-use Rattle.of_table.specs.Table.{FlowEntry, counted_at}
-use Rattle.of_table.specs.Entries.{flows_of, place_of}
-use Rattle.of_table.proofs.NumberLemmas.{number_some, number_none}
-use Rattle.of_table.proofs.CountLemmas.{counted_none}
-use Rattle.of_table.proofs.Unlike.{unlike_rows}
+use Rattle.of_table.{specs.Table.FlowEntry, specs.Table.counted_at, specs.Entries.flows_of, specs.Entries.place_of, proofs.NumberLemmas.number_some, proofs.NumberLemmas.number_none}
+use Rattle.of_table.proofs.{CountLemmas.counted_none, Unlike.unlike_rows}
 use Rattle.of_table.proofs.flow_table.FlowTable.count.Goals as goal
 
 pub returns-in-None-clause-table : goal.returns-in-None-clause-table

@@ -1,8 +1,7 @@
 use Rattle.std.proofs.Common.{drop, ◌≡◌, true}
 use Rattle.of_wire.specs.Numbered.{is_distinct}
 use Rattle.of_classifier.specs.Rows.{row_number}
-use Rattle.of_table.specs.Entries.{rows_of}
-use Rattle.of_table.proofs.NumberLemmas.{distinct-rows}
+use Rattle.of_table.{specs.Entries.rows_of, proofs.NumberLemmas.distinct-rows}
 use Rattle.of_table.proofs.flow_table.FlowTable.known.Goals as goal
 
 pub returns-clause-distinct : goal.returns-clause-distinct

@@ -1,6 +1,5 @@
 use Rattle.std.proofs.Common.{sym, ◌∙◌}
-use Rattle.of_table.specs.Selecting.{all_told}
-use Rattle.of_table.proofs.SpanLemmas.{told_by_span}
+use Rattle.of_table.{specs.Selecting.all_told, proofs.SpanLemmas.told_by_span}
 use Rattle.of_table.proofs.flow_table.FlowTable.list.Goals as goal
 
 pub returns-then-concerns : goal.returns-then-concerns

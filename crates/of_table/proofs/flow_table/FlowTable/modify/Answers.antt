@@ -1,19 +1,9 @@
 use Rattle.std.proofs.Common.{◌≡◌, ℕ, ◌-◌, ◌≤◌, ◌∙◌, Bool, true, false, List, length, take, drop, refl, sym, ap, subst, arith}
 use Rattle.std.proofs.lemmas.List.{take_rest, length-drop}
 use Rattle.of_actions.specs.declared.instruction.Instruction.{Instruction}
-use Rattle.of_table.specs.declared.entry.Entry.{Entry}
-use Rattle.of_table.specs.declared.selection.Selector.{Selector}
-use Rattle.of_table.specs.declared.selection.Cause.TheVariants.{Moment}
-use Rattle.of_table.specs.Copies.{Supply, wanted, wanted_in}
-use Rattle.of_table.specs.Deadlines.{all_stay}
-use Rattle.of_table.specs.Entries.{Numbered, rows_of, flows_of}
-use Rattle.of_table.specs.Selecting.{modified_entries}
-use Rattle.of_table.specs.Sound.{AreSoundEntries}
-use Rattle.of_table.specs.Tables.{is_in, modified_numbered}
-use Rattle.of_table.proofs.DeadlineLemmas.{modified_none_over}
-use Rattle.of_table.proofs.ModifyLemmas.{same_length}
-use Rattle.of_table.proofs.Replaced.{written_behind}
-use Rattle.of_table.proofs.Unlike.{unlike_rows}
+use Rattle.of_table.specs.{declared.entry.Entry.Entry, declared.selection.Selector.Selector, declared.selection.Cause.TheVariants.Moment, Copies.Supply, Copies.wanted, Copies.wanted_in}
+use Rattle.of_table.specs.{Deadlines.all_stay, Entries.Numbered, Entries.rows_of, Entries.flows_of, Selecting.modified_entries, Sound.AreSoundEntries, Tables.is_in, Tables.modified_numbered}
+use Rattle.of_table.proofs.{DeadlineLemmas.modified_none_over, ModifyLemmas.same_length, Replaced.written_behind, Unlike.unlike_rows}
 use Rattle.of_table.proofs.flow_table.FlowTable.modify.Goals as goal
 
 module _ (w : Selector) (k : ℕ) (t : Numbered) (es : List Entry) (inside : is_in w.table k ≡ true) where

@@ -2,9 +2,7 @@ use Rattle.std.proofs.Common.{drop, ◌≡◌, true}
 use Rattle.of_headers.specs.FieldMap.{value}
 use Rattle.of_wire.specs.Numbered.{is_distinct}
 use Rattle.of_classifier.specs.Rows.{row_number}
-use Rattle.of_table.specs.Entries.{entry_number, rows_of}
-use Rattle.of_table.proofs.NumberLemmas.{distinct-rows}
-use Rattle.of_table.proofs.WinnerLemmas.{answer_place, answer_there}
+use Rattle.of_table.{specs.Entries.entry_number, specs.Entries.rows_of, proofs.NumberLemmas.distinct-rows, proofs.WinnerLemmas.answer_place, proofs.WinnerLemmas.answer_there}
 use Rattle.of_table.proofs.flow_table.FlowTable.peek.Goals as goal
 
 pub returns-clause-place : goal.returns-clause-place

@@ -1,12 +1,7 @@
 use Rattle.std.proofs.Common.{◌≡◌, ◌∙◌, List, drop, sym, ap, rules, arith}
 use Rattle.std.proofs.lemmas.Fn.{filter_same}
-use Rattle.of_table.specs.declared.entry.Entry.{Entry}
-use Rattle.of_table.specs.declared.selection.Cause.TheVariants.{Moment}
-use Rattle.of_table.specs.Deadlines.{all_stay}
-use Rattle.of_table.specs.Entries.{rows_of}
-use Rattle.of_table.specs.Selecting.{kept_of}
-use Rattle.of_table.proofs.AddLemmas.{with_entries}
-use Rattle.of_table.proofs.Unlike.{unlike_kept}
+use Rattle.of_table.specs.{declared.entry.Entry.Entry, declared.selection.Cause.TheVariants.Moment, Deadlines.all_stay, Entries.rows_of, Selecting.kept_of}
+use Rattle.of_table.proofs.{AddLemmas.with_entries, Unlike.unlike_kept}
 use Rattle.of_table.proofs.flow_table.FlowTable.remove_all.Goals as goal
 
 pub invariant_of-self : goal.invariant_of-self

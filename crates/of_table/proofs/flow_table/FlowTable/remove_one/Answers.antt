@@ -1,16 +1,10 @@
 use Rattle.std.proofs.Common.{◌≡◌, ◌+◌, ◌-◌, ◌<◌, ◌∙◌, true, false, length, get_or, drop, refl, sym, ap, arith}
-use Rattle.std.specs.Prelude.{is_some, remove}
-use Rattle.std.proofs.lemmas.List.{length-drop}
+use Rattle.std.{specs.Prelude.is_some, specs.Prelude.remove, proofs.lemmas.List.length-drop}
 use Rattle.of_wire.specs.Numbered.{is_distinct, without}
 use Rattle.of_classifier.specs.Rows.{row_number}
-use Rattle.of_table.specs.Entries.{entry_of, rows_of}
-use Rattle.of_table.specs.Selecting.{reason_of, stays, kept_of}
-use Rattle.of_table.proofs.AddLemmas.{with_entries, used_again, rows_gone}
-use Rattle.of_table.proofs.DeadlineLemmas.{kept_none_over}
-use Rattle.of_table.proofs.RemoveLemmas.{goes_by, stays_by}
-use Rattle.of_table.proofs.Replaced.{at_behind, one_gone}
-use Rattle.of_table.proofs.SpanLemmas.{one_goes, one_stays}
-use Rattle.of_table.proofs.Unlike.{unlike_kept}
+use Rattle.of_table.specs.{Entries.entry_of, Entries.rows_of, Selecting.reason_of, Selecting.stays, Selecting.kept_of}
+use Rattle.of_table.proofs.{AddLemmas.with_entries, AddLemmas.used_again, AddLemmas.rows_gone, DeadlineLemmas.kept_none_over, RemoveLemmas.goes_by, RemoveLemmas.stays_by}
+use Rattle.of_table.proofs.{Replaced.at_behind, Replaced.one_gone, SpanLemmas.one_goes, SpanLemmas.one_stays, Unlike.unlike_kept}
 use Rattle.of_table.proofs.flow_table.FlowTable.remove_one.Goals as goal
 
 pub take-requires : goal.take-requires

@@ -1,9 +1,5 @@
 use Rattle.std.proofs.Common.{drop, rules, ◌∙◌, ap}
-use Rattle.of_table.proofs.AddLemmas.{with_entries}
-use Rattle.of_table.specs.declared.selection.Cause.TheVariants.{Moment}
-use Rattle.of_table.specs.Deadlines.{all_stay}
-use Rattle.of_table.proofs.DeadlineLemmas.{added_none_over}
-use Rattle.of_table.proofs.Unlike.{unlike_with}
+use Rattle.of_table.{specs.declared.selection.Cause.TheVariants.Moment, specs.Deadlines.all_stay, proofs.AddLemmas.with_entries, proofs.DeadlineLemmas.added_none_over, proofs.Unlike.unlike_with}
 use Rattle.of_table.proofs.flow_table.FlowTable.replace.Goals as goal
 
 pub returns : goal.returns

@@ -1,8 +1,6 @@
 use Rattle.std.proofs.Common.{drop, ◌≡◌, ◌∙◌, sym, Some, None}
-use Rattle.of_classifier.specs.Rows.{same_of}
-use Rattle.of_classifier.specs.Winner.{winner_number}
-use Rattle.of_table.specs.Entries.{rows_of}
-use Rattle.of_table.proofs.NumberLemmas.{same_some, same_none}
+use Rattle.of_classifier.specs.{Rows.same_of, Winner.winner_number}
+use Rattle.of_table.{specs.Entries.rows_of, proofs.NumberLemmas.same_some, proofs.NumberLemmas.same_none}
 use Rattle.of_table.proofs.flow_table.FlowTable.same_place.Goals as goal
 
 pub returns-in-Some : goal.returns-in-Some

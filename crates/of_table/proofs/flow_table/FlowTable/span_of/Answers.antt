@@ -1,9 +1,6 @@
 use Rattle.std.proofs.Common.{sym, ap, length, List, arith}
-use Rattle.of_table.specs.declared.entry.Entry.{Entry}
+use Rattle.of_table.{specs.declared.entry.Entry.Entry, specs.Entries.classifier_row, proofs.PlaceLemmas.position_some, proofs.SpanLemmas.meant_inside, proofs.SpanLemmas.meant_nowhere}
 use Rattle.of_classifier.specs.Rows.{is_same_row}
-use Rattle.of_table.specs.Entries.{classifier_row}
-use Rattle.of_table.proofs.PlaceLemmas.{position_some}
-use Rattle.of_table.proofs.SpanLemmas.{meant_inside, meant_nowhere}
 use Rattle.of_table.proofs.flow_table.FlowTable.span_of.Goals as goal
 
 pub overflow_add-result : goal.overflow_add-result

@@ -1,13 +1,7 @@
 use Rattle.std.proofs.Common.{◌≡◌, ◌<◌, true, false, set, length, arith, refl, sym, ap, ◌∙◌}
-use Rattle.std.specs.Prelude.{nat_le, map, slice_index_or}
-use Rattle.std.proofs.lemmas.Bool.Decides.{nat_tests}
-use Rattle.std.proofs.Math.ListN.{get_or-map}
-use Rattle.of_table.specs.Table.{Table, empty_table, add_flow_fault}
-use Rattle.of_table.specs.Entries.{no_entries, table_of}
-use Rattle.of_table.specs.Sound.{are_instructions_fit}
-use Rattle.of_table.specs.Tables.{NumberedTables}
-use Rattle.of_table.proofs.Soundness.{tables_sound, ok_added}
-use Rattle.of_table.proofs.TablesLemmas.{adds_set, tables_added, table_is}
+use Rattle.std.{specs.Prelude.nat_le, specs.Prelude.map, specs.Prelude.slice_index_or, proofs.lemmas.Bool.Decides.nat_tests, proofs.Math.ListN.get_or-map}
+use Rattle.of_table.specs.{Table.Table, Table.empty_table, Table.add_flow_fault, Entries.no_entries, Entries.table_of, Sound.are_instructions_fit, Tables.NumberedTables}
+use Rattle.of_table.proofs.{Soundness.tables_sound, Soundness.ok_added, TablesLemmas.adds_set, TablesLemmas.tables_added, TablesLemmas.table_is}
 use Rattle.of_table.proofs.flow_tables.FlowTables.add.Goals as goal
 
 pub returns-clause-fault : goal.returns-clause-fault

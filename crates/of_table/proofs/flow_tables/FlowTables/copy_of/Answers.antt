@@ -1,7 +1,5 @@
 use Rattle.std.proofs.Common.{◌≡◌, ◌<◌, length, arith, ap}
-use Rattle.of_table.specs.Table.{Table}
-use Rattle.of_table.specs.Entries.{flows_of}
-use Rattle.of_table.proofs.CopiedLemmas.{taken_sound}
+use Rattle.of_table.{specs.Table.Table, specs.Entries.flows_of, proofs.CopiedLemmas.taken_sound}
 use Rattle.of_table.proofs.flow_tables.FlowTables.copy_of.Goals as goal
 
 pub invariant_of-result : goal.invariant_of-result

@@ -1,9 +1,7 @@
-use Rattle.of_table.proofs.Soundness.{tables_sound, matched_sound}
+use Rattle.of_table.specs.{Table.matched_at, Entries.Numbered, Entries.no_entries, Entries.table_of, Entries.place_of}
+use Rattle.of_table.proofs.{Soundness.tables_sound, Soundness.matched_sound, TablesLemmas.table_is, TablesLemmas.tables_set, TablesLemmas.numbers_set}
 use Rattle.std.proofs.Common.{◌≡◌, ℕ, ◌<◌, ◌∙◌, length, arith, ap}
 use Rattle.std.specs.Prelude.{slice_index_or}
-use Rattle.of_table.specs.Table.{matched_at}
-use Rattle.of_table.specs.Entries.{Numbered, no_entries, table_of, place_of}
-use Rattle.of_table.proofs.TablesLemmas.{table_is, tables_set, numbers_set}
 use Rattle.of_table.proofs.flow_tables.FlowTables.count.Goals as goal
 
 pub returns-clause-tables : goal.returns-clause-tables

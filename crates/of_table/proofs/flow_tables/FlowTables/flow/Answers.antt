@@ -1,9 +1,7 @@
 use Rattle.std.proofs.Common.{◌≡◌, ◌<◌, length, sym, subst, true, arith}
 use Rattle.std.specs.Prelude.{slice_index_or, Some}
-use Rattle.of_table.specs.Table.{flow_at}
 use Rattle.of_table.specs.Entries.{Numbered, no_entries, flows_of, is_entry_there, place_of}
-use Rattle.of_table.proofs.NumberLemmas.{flow_at_place, there_not_none}
-use Rattle.of_table.proofs.TablesLemmas.{table_is}
+use Rattle.of_table.{specs.Table.flow_at, proofs.NumberLemmas.flow_at_place, proofs.NumberLemmas.there_not_none, proofs.TablesLemmas.table_is}
 use Rattle.of_table.proofs.flow_tables.FlowTables.flow.Goals as goal
 
 pub unreachable-requires : goal.unreachable-requires

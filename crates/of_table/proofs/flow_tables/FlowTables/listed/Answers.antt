@@ -1,7 +1,5 @@
 use Rattle.std.proofs.Common.{◌≡◌, ap}
-use Rattle.of_table.specs.declared.selection.Cause.TheVariants.{Moment}
-use Rattle.of_table.specs.Tables.{NumberedTables, cause_at}
-use Rattle.of_table.proofs.TablesLemmas.{notices_ok, command_at}
+use Rattle.of_table.{specs.declared.selection.Cause.TheVariants.Moment, specs.Tables.NumberedTables, specs.Tables.cause_at, proofs.TablesLemmas.notices_ok, proofs.TablesLemmas.command_at}
 use Rattle.of_table.proofs.flow_tables.FlowTables.listed.Goals as goal
 
 pub returns-in-Moment-clause-notices : goal.returns-in-Moment-clause-notices

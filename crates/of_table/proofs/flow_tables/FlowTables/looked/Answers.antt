@@ -1,8 +1,5 @@
-use Rattle.of_table.proofs.Soundness.{tables_sound, same_sound}
+use Rattle.of_table.{specs.Table.looked, specs.Entries.entry_numbers, proofs.Soundness.tables_sound, proofs.Soundness.same_sound, proofs.TablesLemmas.tables_set, proofs.TablesLemmas.numbers_set}
 use Rattle.std.proofs.Common.{◌<◌, length, arith, ap}
-use Rattle.of_table.specs.Table.{looked}
-use Rattle.of_table.specs.Entries.{entry_numbers}
-use Rattle.of_table.proofs.TablesLemmas.{tables_set, numbers_set}
 use Rattle.of_table.proofs.flow_tables.FlowTables.looked.Goals as goal
 
 pub returns-clause-tables : goal.returns-clause-tables

@@ -1,13 +1,9 @@
 use Rattle.std.proofs.Common.{◌≡◌, ◌∙◌, ℕ, ◌≤◌, true, ◌+◌, List, length, refl, sym, arith, ap}
 use Rattle.std.proofs.lemmas.Result.{err_from_is_err_and}
 use Rattle.of_actions.specs.declared.instruction.Instruction.{Instruction}
-use Rattle.of_table.specs.declared.selection.Selector.{Selector}
-use Rattle.of_table.specs.Copies.{Supply, wanted_from}
-use Rattle.of_table.specs.Entries.{Numbered}
-use Rattle.of_table.specs.Sound.{are_instructions_fit}
 use Rattle.of_table.specs.Tables.{NumberedTables, is_in, each_from, modified_numbered, tables_of, all_modified}
-use Rattle.of_table.proofs.TablesLemmas.{tables_modified}
-use Rattle.of_table.proofs.Replaced.{written}
+use Rattle.of_table.specs.{declared.selection.Selector.Selector, Copies.Supply, Copies.wanted_from, Entries.Numbered, Sound.are_instructions_fit}
+use Rattle.of_table.proofs.{TablesLemmas.tables_modified, Replaced.written}
 use Rattle.of_table.proofs.flow_tables.FlowTables.modify.Goals as goal
 
 at_most : (n : ℕ) → n ≡ 16 → n ≤ 16

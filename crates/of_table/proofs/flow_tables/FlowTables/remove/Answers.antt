@@ -1,6 +1,5 @@
 use Rattle.std.proofs.Common.{◌≡◌, ap}
-use Rattle.of_table.specs.declared.selection.Cause.TheVariants.{Moment}
-use Rattle.of_table.specs.Tables.{NumberedTables, cause_at, latest_after}
+use Rattle.of_table.specs.{declared.selection.Cause.TheVariants.Moment, Tables.NumberedTables, Tables.cause_at, Tables.latest_after}
 use Rattle.of_table.proofs.TablesLemmas.{kept_by, left_by, command_at}
 use Rattle.of_table.proofs.flow_tables.FlowTables.remove.Goals as goal
 

@@ -1,7 +1,5 @@
 use Rattle.std.proofs.Common.{◌≡◌, ◌∙◌, List, length, arith, ap}
-use Rattle.of_table.specs.Entries.{Numbered}
-use Rattle.of_table.specs.Tables.{each_from, kept_table}
-use Rattle.of_table.proofs.Replaced.{written}
+use Rattle.of_table.{specs.Entries.Numbered, specs.Tables.each_from, specs.Tables.kept_table, proofs.Replaced.written}
 use Rattle.of_table.proofs.flow_tables.FlowTables.remove_at.Goals as goal
 
 pub returns : goal.returns

@@ -1,8 +1,5 @@
 use Rattle.std.proofs.Common.{◌<◌, length, arith, ap}
-use Rattle.of_table.specs.Entries.{table_of}
-use Rattle.of_table.proofs.CopiedLemmas.{taken_sound}
-use Rattle.of_table.proofs.Soundness.{tables_sound}
-use Rattle.of_table.proofs.TablesLemmas.{tables_set}
+use Rattle.of_table.{specs.Entries.table_of, proofs.CopiedLemmas.taken_sound, proofs.Soundness.tables_sound, proofs.TablesLemmas.tables_set}
 use Rattle.of_table.proofs.flow_tables.FlowTables.swap.Goals as goal
 
 pub returns-clause-tables : goal.returns-clause-tables

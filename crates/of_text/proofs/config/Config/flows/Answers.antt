@@ -1,6 +1,5 @@
 use Rattle.std.proofs.Common.{◌<◌, ◌∙◌, length, ap, arith}
-use Rattle.of_text.specs.Views.{view_flows}
-use Rattle.of_text.proofs.FillLemmas.{config_sixteen, lent_table}
+use Rattle.of_text.{specs.Views.view_flows, proofs.FillLemmas.config_sixteen, proofs.FillLemmas.lent_table}
 use Rattle.of_text.proofs.config.Config.flows.Goals as goal
 
 pub index-requires : goal.index-requires

@@ -1,7 +1,5 @@
 use Rattle.std.proofs.Common.{length, ap, ◌∙◌}
-use Rattle.of_text.proofs.EntryLemmas.{config_entries, config_stands, config_few}
-use Rattle.of_text.proofs.FillLemmas.{sixteen}
-use Rattle.of_text.proofs.GroupLemmas.{config_groups}
+use Rattle.of_text.proofs.{EntryLemmas.config_entries, EntryLemmas.config_stands, EntryLemmas.config_few, FillLemmas.sixteen, GroupLemmas.config_groups}
 use Rattle.of_text.proofs.config.Config.known.Goals as goal
 
 pub returns-clause-entries : goal.returns-clause-entries

@@ -1,5 +1,4 @@
-use Rattle.of_text.specs.Configs.{view_config}
-use Rattle.of_text.proofs.StandLemmas.{kept_config}
+use Rattle.of_text.{specs.Configs.view_config, proofs.StandLemmas.kept_config}
 use Rattle.of_text.proofs.config.Config.of.Goals as goal
 
 pub invariant_of-result : goal.invariant_of-result

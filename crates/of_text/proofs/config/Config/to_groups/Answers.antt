@@ -1,8 +1,5 @@
 use Rattle.of_groups.specs.Sound.{AreSound}
-use Rattle.of_text.specs.Groups.{groups_at}
-use Rattle.of_text.specs.Views.{view_groups}
-use Rattle.of_text.proofs.GroupLemmas.{config_groups}
-use Rattle.of_text.proofs.SoundLemmas.{sound_at}
+use Rattle.of_text.{specs.Groups.groups_at, specs.Views.view_groups, proofs.GroupLemmas.config_groups, proofs.SoundLemmas.sound_at}
 use Rattle.of_text.proofs.config.Config.to_groups.Goals as goal
 
 pub groups_from-requires : goal.groups_from-requires
