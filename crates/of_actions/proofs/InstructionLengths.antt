@@ -3,7 +3,7 @@ use Rattle.std.proofs.Common.{◌≡◌, ℕ, ◌+◌, ◌≤◌, true, false, e
 use Rattle.std.{specs.Prelude.◌==◌, specs.Prelude.◌||◌, specs.Prelude.if◌then◌else◌, specs.List.list_all, proofs.lemmas.Bool.eqb-true, proofs.lemmas.Bool.Decides.nat_tests}
 use Rattle.std.proofs.lemmas.List.{length-append, append_assoc}
 use Rattle.of_wire.specs.Numbered.{only}
-use Rattle.of_actions.specs.declared.instruction.Instruction.TheVariants.{Apply, Clear, Write, Metadata, Goto}
+use Rattle.of_actions.specs.declared.instruction.Instruction.TheVariants.{Apply, Write}
 use Rattle.of_actions.proofs.RunOrders.{groups, only_all, list_all-only, rising_only_of, one_of, order_same}
 use Rattle.of_actions.specs.{declared.instruction.Instruction.Instruction, Rising.is_ascending, InstructionLists.run_place, InstructionLists.is_served_body, InstructionLists.are_kept}
 use Rattle.of_actions.{specs.RunOrder.in_run_order, specs.CanonicalInstructions.canonical_instruction, specs.CanonicalInstructions.canonical_instructions, proofs.ActionsAgain.canonical_short}
@@ -15,10 +15,8 @@ most k = if (k == 0) || (k == 2) then 1544 else if k == 3 then 24 else 8
 length-instruction : (i : Instruction) → is_served_body i ≡ true → length (canonical_instruction i) ≤ most (run_place i)
 unfolding canonical_instruction
 length-instruction (Apply actions) served = let l = canonical_short false actions served in omega (arith, l.short)
-length-instruction Clear served = omega arith
 length-instruction (Write actions) served = let l = canonical_short false actions served in omega (arith, l.short)
-length-instruction (Metadata value mask) served = omega arith
-length-instruction (Goto table) served = omega arith
+length-instruction other served = omega arith
 
 group_short : (k : ℕ) (xs : List Instruction) → list_all (λ x. eqb (run_place x) k) xs ≡ true → is_ascending run_place xs ≡ true → list_all is_served_body xs ≡ true → length (canonical_instructions xs) ≤ most k
 group_short k [] all up served = omega arith

@@ -153,10 +153,7 @@ new_more seen h (i ∷ is) new unused =
 
 kind_same : (i : Instruction) → kind_of (header_of i) ≡ type_of_instruction i
 kind_same (Goto table) = refl
-kind_same (Metadata value mask) = refl
-kind_same (Write actions) = refl
-kind_same (Apply actions) = refl
-kind_same Clear = refl
+kind_same other = refl
 
 all_again : (table : ℕ) (seen : List Header) (is : List Instruction) → list_all is_served_body is ≡ true → are_for table is ≡ true → are_new seen is ≡ true → is_distinct type_of_instruction is ≡ true → AllAgain (headers_of table) text_of seen (map header_of is)
 all_again table seen [] served valid new once = tt
@@ -174,10 +171,7 @@ all_again table seen (i ∷ is) served valid new once =
 text_same : (i : Instruction) → text_of (header_of i) ≡ canonical_instruction i
 unfolding text_of canonical_instruction
 text_same (Goto table) = refl
-text_same (Metadata value mask) = refl
-text_same (Write actions) = refl
-text_same (Apply actions) = refl
-text_same Clear = refl
+text_same other = refl
 
 texts_same : (is : List Instruction) → flat_map text_of (map header_of is) ≡ canonical_instructions is
 texts_same [] = refl

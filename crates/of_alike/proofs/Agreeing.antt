@@ -3,9 +3,9 @@ use Rattle.std.proofs.Common.{◌≡◌, ℕ, suc, zero, ◌≤◌, ◌==◌, Bo
 use Rattle.std.specs.{Prelude.filter, Prelude.not, Prelude.nat_lt, Prelude.unwrap_or, List.AllByRecursion, List.list_any}
 use Rattle.of_wire.specs.declared.limits.TheConstants.{OFPP_TABLE}
 use Rattle.of_layers.specs.Reading.{layers_of}
-use Rattle.of_rewrite.specs.{declared.frame.Ttl.Ttl, declared.frame.Ttl.TheVariants.Done, declared.frame.Ttl.TheVariants.Expired, declared.frame.Ttl.TheVariants.Absent}
+use Rattle.of_rewrite.specs.{declared.frame.Ttl.Ttl, declared.frame.Ttl.TheVariants.Expired}
 use Rattle.of_rewrite.specs.TimeToLive.{ttl_of, dec_ttl_result}
-use Rattle.of_actions.specs.declared.action.Action.TheVariants.{Output, PushVlan, PopVlan, Group, SetNwTtl, DecNwTtl, SetField}
+use Rattle.of_actions.specs.declared.action.Action.TheVariants.{Output, Group, DecNwTtl}
 use Rattle.of_actions.specs.declared.instruction.Instruction.TheVariants.{Apply, Clear, Write, Metadata, Goto}
 use Rattle.of_actions.specs.{declared.action.Action.Action, declared.instruction.Instruction.Instruction}
 use Rattle.of_action_set.specs.Sets.{in_order, with_action, with_actions, is_group, is_output, rank}
@@ -94,8 +94,7 @@ module _ (n : ℕ) (w v : TheWorld) (agree : AgreeFrom n w v) (onward : IsOnward
 
   ttl_agrees : (p : Packet) (rest : List Work) (t : Ttl) → AreNoTable p.action_set → WorkFrom n rest → RowsAgree n (dec_ttl_row p rest t) (dec_ttl_row p rest t)
   ttl_agrees p rest Expired set k = record { left = refl; items = refl; line = refl; from = (record { set = set; work = tt }, tt) }
-  ttl_agrees p rest Done set k = record { left = refl; items = refl; line = refl; from = (record { set = set; work = k }, tt) }
-  ttl_agrees p rest Absent set k = record { left = refl; items = refl; line = refl; from = (record { set = set; work = k }, tt) }
+  ttl_agrees p rest other set k = record { left = refl; items = refl; line = refl; from = (record { set = set; work = k }, tt) }
 
   outputs_agree : (p : Packet) (rest : List Work) (port max_len : ℕ) → AreNoTable p.action_set → (b : Bool) → b ≡ false → WorkFrom n rest →
       RowsAgree n (if b then output_to_table_row p rest (Output port max_len) else emits (DidAct (Output port max_len)) (emission w.ports p port max_len) (task p rest ∷ [])) (if b then output_to_table_row p rest (Output port max_len) else emits (DidAct (Output port max_len)) (emission v.ports p port max_len) (task p rest ∷ []))
@@ -118,10 +117,7 @@ module _ (n : ℕ) (w v : TheWorld) (agree : AgreeFrom n w v) (onward : IsOnward
   acts_agree p rest (Output port max_len) set h k = outputs_agree p rest port max_len set (port == OFPP_TABLE) h k
   acts_agree p rest (Group g) set h k = rw (← agree.chosen g) (groups_agree p rest g set k (w.chosen g) refl)
   acts_agree p rest DecNwTtl set h k = ttl_agrees p rest (dec_ttl_result (ttl_of (layers_of p.frame))) set k
-  acts_agree p rest (PushVlan type) set h k = record { left = refl; items = refl; line = refl; from = (record { set = set; work = k }, tt) }
-  acts_agree p rest PopVlan set h k = record { left = refl; items = refl; line = refl; from = (record { set = set; work = k }, tt) }
-  acts_agree p rest (SetNwTtl ttl) set h k = record { left = refl; items = refl; line = refl; from = (record { set = set; work = k }, tt) }
-  acts_agree p rest (SetField field value) set h k = record { left = refl; items = refl; line = refl; from = (record { set = set; work = k }, tt) }
+  acts_agree p rest other set h k = record { left = refl; items = refl; line = refl; from = (record { set = set; work = k }, tt) }
 
   pub rows_agree : (p : Packet) (work : List Work) → AreNoTable p.action_set → WorkFrom n work → RowsAgree n (row w p work) (row v p work)
   rows_agree p [] set h = record { left = refl; items = refl; line = refl; from = tt }

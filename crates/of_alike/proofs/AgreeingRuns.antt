@@ -2,7 +2,7 @@
 use Rattle.std.proofs.Common.{◌≡◌, ℕ, suc, ◌+◌, ◌≤◌, ◌==◌, true, false, List, [], ◌∷◌, ◌++◌, refl, sym, ◌∙◌, ap, arith, add_comm}
 use Rattle.std.{specs.Prelude.unwrap_or, specs.List.AllByRecursion, specs.List.list_all, proofs.lemmas.Bool.Decides.nat_tests, proofs.lemmas.List.append-nil}
 use Rattle.of_wire.specs.declared.limits.TheConstants.{OFPP_TABLE}
-use Rattle.of_actions.specs.declared.instruction.Instruction.TheVariants.{Apply, Clear, Write, Metadata, Goto}
+use Rattle.of_actions.specs.declared.instruction.Instruction.TheVariants.{Apply, Write, Goto}
 use Rattle.of_actions.specs.{declared.action.Action.Action, declared.action.Action.TheVariants.Output, declared.instruction.Instruction.Instruction}
 use Rattle.of_actions.specs.{InstructionLists.are_for, InstructionLists.is_for, InstructionLists.is_served_body, PortNumbers.is_port, Supported.are_supported, Supported.is_supported}
 use Rattle.of_machine.specs.{declared.data.Packet.Packet, declared.data.Item.Item, TheWorld.TheWorld, Rows.Lookup, Rows.task, Runs.Machine, Runs.after, Runs.run_of, Runs.starting}
@@ -30,10 +30,9 @@ supported_no_table l h = all_no_table l (grind (arith, nat_tests))
 
 one_from : (n t : ℕ) → n ≤ suc t → (i : Instruction) → is_served_body i ≡ true → is_for t i ≡ true → InstructionFrom n i
 one_from n t le (Apply l) h k = supported_no_table l h
-one_from n t le Clear h k = tt
 one_from n t le (Write l) h k = supported_no_table l h
-one_from n t le (Metadata value mask) h k = tt
 one_from n t le (Goto to) h k = grind (arith, nat_tests)
+one_from n t le other h k = tt
 
 pub all_from : (n t : ℕ) → n ≤ suc t → (is : List Instruction) → list_all is_served_body is ≡ true → are_for t is ≡ true → AllByRecursion (InstructionFrom n) is
 all_from n t le [] h k = tt
@@ -42,10 +41,9 @@ all_from n t le (i ∷ is) h k = (one_from n t le i (grind (arith, nat_tests)) (
 -- an instruction that leads to no table before this one
 pub served_from : (n : ℕ) (i : Instruction) → is_served_body i ≡ true → ((t : ℕ) → i ≡ Goto t → n ≤ t) → InstructionFrom n i
 served_from n (Apply l) h k = supported_no_table l h
-served_from n Clear h k = tt
 served_from n (Write l) h k = supported_no_table l h
-served_from n (Metadata value mask) h k = tt
 served_from n (Goto t) h k = k t refl
+served_from n other h k = tt
 
 buckets_from : (w : TheWorld) (g : ℕ) (places : List ℕ) → AllBuckets w g places → AllByRecursion (λ place. AreNoTable (unwrap_or (w.bucket g place) [])) places
 buckets_from w g [] h = tt

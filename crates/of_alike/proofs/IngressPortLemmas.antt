@@ -1,10 +1,10 @@
 -- Packets by the port by which they came in.
-use Rattle.std.proofs.Common.{◌≡◌, ℕ, ◌<◌, ◌^◌, eqb, true, false, List, [], ◌∷◌, Option, Some, refl, sym, ap, subst, ◌∙◌, arith}
+use Rattle.std.proofs.Common.{◌≡◌, ℕ, ◌<◌, ◌^◌, eqb, true, false, List, [], ◌∷◌, Option, Some, refl, sym, ap, subst, ◌∙◌}
 use Rattle.std.specs.{Prelude.bit_and, Prelude.◌&&◌, Global.Vec, List.All, List.Contains}
 use Rattle.std.proofs.{lemmas.Bool.and_from, lemmas.Bool.and_parts, lemmas.Bool.eq-eqb, lemmas.List.Elements.All-contains, lemmas.List.Elements.All-head, lemmas.List.Elements.All-tail}
-use Rattle.of_layers.specs.{declared.field.Field.Field, declared.field.Field.TheVariants.InPort, Fields.ones_of, Fields.row_of}
-use Rattle.of_oxm.{specs.declared.match_field.MatchField.MatchField, specs.Relations.agrees, specs.Relations.bits_looked_at, specs.Relations.matches_map, proofs.Normal.under_ones}
-use Rattle.of_regions.specs.{declared.meeting.Meeting.TheVariants.Apart, declared.meeting.Meeting.TheVariants.Whole, declared.region.Region.Region, Conditions.AreConditions, Meeting.Meets}
+use Rattle.of_layers.specs.{declared.field.Field.Field, declared.field.Field.TheVariants.InPort, Fields.ones_of}
+use Rattle.of_oxm.{specs.declared.match_field.MatchField.MatchField, specs.Relations.agrees, specs.Relations.bits_looked_at, specs.Relations.matches_map}
+use Rattle.of_regions.specs.{declared.meeting.Meeting.TheVariants.Apart, declared.meeting.Meeting.TheVariants.Whole, declared.region.Region.Region, Meeting.Meets}
 use Rattle.of_regions.specs.Regions.{InRegion}
 use Rattle.of_symbolic.specs.InnerTags.{description_of}
 use Rattle.of_symbolic_run.{specs.declared.frame_set.FrameSet.FrameSet, specs.FrameSets.InFrames, specs.PortNumbers.came_in_by, proofs.ConditionLemmas.within_port}

@@ -103,15 +103,13 @@ same_live_ports ps qs e = fun_ext (λ n. live_port n (port_at ps n) (port_at qs 
 -- ---- the buckets that run
 
 places_by : (ℕ → Bool) → (ℕ → Bool) → GroupKind → List BucketKey → List ℕ
-places_by port group All bs = range_with_len 0 (length bs)
-places_by port group Indirect bs = range_with_len 0 (length bs)
 places_by port group FastFailover bs = option_to_list (position (is_live_by port group) bs)
+places_by port group other bs = range_with_len 0 (length bs)
 
 places_by_key : (port group : ℕ → Bool) (kind : GroupKind) (bs : List Bucket) → places_of port group kind bs ≡ places_by port group kind (map bucket_key bs)
 unfolding places_by
-places_by_key port group All bs = ap (range_with_len 0) (sym (length-map bs bucket_key))
-places_by_key port group Indirect bs = ap (range_with_len 0) (sym (length-map bs bucket_key))
 places_by_key port group FastFailover bs = ap option_to_list (position_by port group bs)
+places_by_key port group other bs = ap (range_with_len 0) (sym (length-map bs bucket_key))
 
 pub same_chosen : (ps qs : List Port) (gs hs : List Group) → SamePorts ps qs → SameGroups gs hs → (n : ℕ) → chosen gs (is_live_at ps) n ≡ chosen hs (is_live_at qs) n
 same_chosen ps qs gs hs ports e n =

@@ -5,10 +5,10 @@ use Rattle.std.{specs.Option.option_map, specs.List.AllByRecursion, specs.List.C
 use Rattle.std.proofs.{lemmas.Nat.and_mask, lemmas.Bool.Decides.nat_tests, lemmas.List.append-nil}
 use Rattle.of_wire.specs.declared.limits.TheConstants.{OFPP_ALL, OFPP_CONTROLLER, OFPP_FLOOD, OFPP_IN_PORT, OFPP_TABLE}
 use Rattle.of_layers.specs.{Fields.row_of, Reading.layers_of, declared.field.Field.Field, declared.field.Field.TheVariants.InPort}
-use Rattle.of_rewrite.specs.{declared.frame.Ttl.Ttl, declared.frame.Ttl.TheVariants.Done, declared.frame.Ttl.TheVariants.Expired, declared.frame.Ttl.TheVariants.Absent}
+use Rattle.of_rewrite.specs.{declared.frame.Ttl.Ttl, declared.frame.Ttl.TheVariants.Expired}
 use Rattle.of_rewrite.specs.TimeToLive.{ttl_of, dec_ttl_result}
-use Rattle.of_actions.specs.declared.action.Action.TheVariants.{Output, PushVlan, PopVlan, Group, SetNwTtl, DecNwTtl, SetField}
-use Rattle.of_actions.specs.declared.instruction.Instruction.TheVariants.{Apply, Clear, Write, Metadata, Goto}
+use Rattle.of_actions.specs.declared.action.Action.TheVariants.{Output, Group, DecNwTtl}
+use Rattle.of_actions.specs.declared.instruction.Instruction.TheVariants.{Apply}
 use Rattle.of_actions.specs.{declared.action.Action.Action, declared.instruction.Instruction.Instruction, PortNumbers.is_number}
 use Rattle.of_oxm.specs.{declared.match_field.MatchField.MatchField, Relations.agrees, Relations.bits_looked_at, Relations.matches_map}
 use Rattle.of_check.{specs.Actions.is_in_port, specs.Actions.required_port, proofs.WinnerLemmas.winner_agrees}
@@ -38,10 +38,7 @@ lookup_came i w p e t (Some n) = entry_came i p e t n (w.flow t n)
 
 do_came : (i : ℕ) (p : Packet) → p.ingress ≡ i → (rest : List Work) (j : Instruction) → Came i (do_row p rest j).left
 do_came i p e rest (Apply l) = (e, tt)
-do_came i p e rest Clear = (e, tt)
-do_came i p e rest (Write l) = (e, tt)
-do_came i p e rest (Metadata value mask) = (e, tt)
-do_came i p e rest (Goto t) = (e, tt)
+do_came i p e rest other = (e, tt)
 
 output_came : (i : ℕ) (p : Packet) → p.ingress ≡ i → (rest : List Work) (a : Action) (line : Step) (x : Emitted) (b : Bool) → Came i (if b then output_to_table_row p rest a else emits line x (task p rest ∷ [])).left
 output_came i p e rest a line x true = (e, (e, tt))
@@ -57,17 +54,13 @@ group_came i w p e rest g (Some places) = came_both i (copies w g p places) (tas
 
 ttl_came : (i : ℕ) (p : Packet) → p.ingress ≡ i → (rest : List Work) (t : Ttl) → Came i (dec_ttl_row p rest t).left
 ttl_came i p e rest Expired = (e, tt)
-ttl_came i p e rest Done = (e, tt)
-ttl_came i p e rest Absent = (e, tt)
+ttl_came i p e rest other = (e, tt)
 
 act_came : (i : ℕ) (w : TheWorld) (p : Packet) → p.ingress ≡ i → (rest : List Work) (a : Action) → Came i (act_row w p rest a).left
 act_came i w p e rest (Output port max_len) = output_came i p e rest (Output port max_len) _ _ (port == OFPP_TABLE)
 act_came i w p e rest (Group g) = group_came i w p e rest g (w.chosen g)
 act_came i w p e rest DecNwTtl = ttl_came i p e rest (dec_ttl_result (ttl_of (layers_of p.frame)))
-act_came i w p e rest (PushVlan type) = (e, tt)
-act_came i w p e rest PopVlan = (e, tt)
-act_came i w p e rest (SetNwTtl ttl) = (e, tt)
-act_came i w p e rest (SetField field value) = (e, tt)
+act_came i w p e rest other = (e, tt)
 
 row_came : (i : ℕ) (w : TheWorld) (p : Packet) → p.ingress ≡ i → (work : List Work) → Came i (row w p work).left
 row_came i w p e [] = tt

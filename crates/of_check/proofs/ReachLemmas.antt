@@ -1,7 +1,7 @@
 -- The tables that are counted as reached are those that ways lead to.
-use Rattle.std.proofs.Common.{◌≡◌, ℕ, ◌+◌, ◌-◌, ◌<◌, ◌≤◌, ◌⊎◌, ◌↔◌, zero, suc, Bool, true, false, cond, eqb, ltb, List, [], ◌∷◌, ◌++◌, length, refl, sym, ap, subst, ◌∙◌, arith, inl, inr}
+use Rattle.std.proofs.Common.{◌≡◌, ℕ, ◌+◌, ◌-◌, ◌<◌, ◌≤◌, ◌↔◌, zero, suc, Bool, true, false, cond, eqb, List, [], ◌∷◌, ◌++◌, length, refl, sym, ap, subst, ◌∙◌, arith, inl, inr}
 use Rattle.std.proofs.lemmas.Bool.{and_from, and_parts, cases_lt, eq-eqb, eqb-true, ltb-true, or_cases}
-use Rattle.std.{specs.Prelude.◌&&◌, specs.Prelude.◌||◌, specs.Prelude.slice_index_or, specs.List.AllByRecursion, specs.List.list_all, specs.List.list_any, proofs.lemmas.List.get_or_past}
+use Rattle.std.{specs.Prelude.◌||◌, specs.List.AllByRecursion, specs.List.list_all, specs.List.list_any, proofs.lemmas.List.get_or_past}
 use Rattle.std.proofs.lemmas.List.Folds.{list_any-append}
 use Rattle.of_actions.specs.declared.instruction.Instruction.TheVariants.{Apply, Clear, Write, Metadata, Goto}
 use Rattle.of_actions.specs.{declared.instruction.Instruction.Instruction, InstructionLists.is_for}

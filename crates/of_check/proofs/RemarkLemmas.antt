@@ -1,7 +1,7 @@
 -- Remarks, one after the other.
-use Rattle.std.proofs.Common.{◌≡◌, ℕ, ◌+◌, ◌<◌, ◌≤◌, suc, Bool, true, false, List, [], ◌∷◌, ◌++◌, length, get_or, drop, take, refl, sym, ap, ◌∙◌, add-one, drop-cons, arith}
-use Rattle.std.specs.Prelude.{map, ◌||◌, Result, Ok, Err, OnOk, is_ok, if◌then◌else◌}
-use Rattle.std.{specs.List.flat_map, specs.List.list_any, proofs.lemmas.List.append_assoc, proofs.lemmas.List.append-nil, proofs.lemmas.List.drop_all}
+use Rattle.std.proofs.Common.{◌≡◌, ℕ, ◌+◌, ◌<◌, ◌≤◌, suc, List, ◌∷◌, ◌++◌, length, get_or, drop, sym, ap, ◌∙◌, add-one, drop-cons}
+use Rattle.std.specs.Prelude.{map, Result, Ok, Err, OnOk, is_ok, if◌then◌else◌}
+use Rattle.std.{specs.List.flat_map, proofs.lemmas.List.append_assoc, proofs.lemmas.List.append-nil, proofs.lemmas.List.drop_all}
 use Rattle.of_text.specs.{Flows.Flow, declared.flow.FlowText.FlowText, Views.view, Views.view_flows}
 use Rattle.of_check.specs.{declared.remark.Remark.Remark, Remarks.flow_remarks, Remarks.flows_remarks}
 

@@ -1,7 +1,7 @@
 -- A packet whose work sends nothing ends, and nothing is emitted or counted.
 use Rattle.std.proofs.Common.{◌≡◌, ℕ, suc, zero, ◌+◌, Bool, true, false, List, [], ◌∷◌, ◌++◌, refl, sym, ◌∙◌, ap, arith}
 use Rattle.std.{specs.Prelude.◌||◌, specs.List.list_any, proofs.lemmas.List.append-nil}
-use Rattle.of_actions.specs.declared.action.Action.TheVariants.{Output, PushVlan, PopVlan, Group, SetNwTtl, DecNwTtl, SetField}
+use Rattle.of_actions.specs.declared.action.Action.TheVariants.{Output, Group, DecNwTtl}
 use Rattle.of_actions.specs.declared.action.Action.{Action}
 use Rattle.of_action_set.specs.Sets.{in_order}
 use Rattle.of_check.specs.{Actions.may_send_packet, Unseen.ComesUnseen as Quietly}
@@ -50,10 +50,7 @@ silent_row : (w : TheWorld) (p : Packet) (rest : List Work) (a : Action) → may
 silent_row w p rest (Output port max_len) h = absurd cc
 silent_row w p rest (Group g) h = absurd cc
 silent_row w p rest DecNwTtl h = absurd cc
-silent_row w p rest (PushVlan type) h = refl
-silent_row w p rest PopVlan h = refl
-silent_row w p rest (SetNwTtl ttl) h = refl
-silent_row w p rest (SetField field value) h = refl
+silent_row w p rest other h = refl
 
 pub or_parts : (a b : Bool) → (a || b) ≡ false → (a ≡ false) × (b ≡ false)
 or_parts true b h = absurd cc

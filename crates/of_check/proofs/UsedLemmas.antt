@@ -6,7 +6,7 @@ use Rattle.of_wire.specs.declared.limits.TheConstants.{OFPP_TABLE}
 use Rattle.of_layers.specs.Reading.{layers_of}
 use Rattle.of_rewrite.specs.{declared.frame.Ttl.Ttl, declared.frame.Ttl.TheVariants.Done, declared.frame.Ttl.TheVariants.Expired, declared.frame.Ttl.TheVariants.Absent}
 use Rattle.of_rewrite.specs.TimeToLive.{ttl_of, dec_ttl_result}
-use Rattle.of_actions.specs.declared.action.Action.TheVariants.{Output, PushVlan, PopVlan, Group, SetNwTtl, DecNwTtl, SetField}
+use Rattle.of_actions.specs.declared.action.Action.TheVariants.{Output, Group, DecNwTtl}
 use Rattle.of_actions.specs.declared.instruction.Instruction.TheVariants.{Apply, Clear, Write, Metadata, Goto}
 use Rattle.of_actions.specs.{declared.action.Action.Action, declared.instruction.Instruction.Instruction, InstructionLists.is_for, InstructionLists.is_served_body, InstructionLists.run_place}
 use Rattle.of_actions.specs.Rising.{is_ascending}
@@ -321,10 +321,7 @@ act_tied : (ts : List (List TextFlow)) (w : TheWorld) (p : Packet) (rest : List 
 act_tied ts w p rest (Output port max_len) h = output_tied ts p rest (Output port max_len) _ _ (port == OFPP_TABLE) h
 act_tied ts w p rest (Group g) h = group_tied ts w p rest g (w.chosen g) h
 act_tied ts w p rest DecNwTtl h = ttl_tied ts p rest (dec_ttl_result (ttl_of (layers_of p.frame))) h
-act_tied ts w p rest (PushVlan type) h = (record { next = h.next; early = pending_early ts p.action_set p.table rest h.early; kept = h.kept }, tt)
-act_tied ts w p rest PopVlan h = (record { next = h.next; early = pending_early ts p.action_set p.table rest h.early; kept = h.kept }, tt)
-act_tied ts w p rest (SetNwTtl ttl) h = (record { next = h.next; early = pending_early ts p.action_set p.table rest h.early; kept = h.kept }, tt)
-act_tied ts w p rest (SetField field value) h = (record { next = h.next; early = pending_early ts p.action_set p.table rest h.early; kept = h.kept }, tt)
+act_tied ts w p rest other h = (record { next = h.next; early = pending_early ts p.action_set p.table rest h.early; kept = h.kept }, tt)
 
 row_tied : (f : Forwarding) → IsSound (world_of f) → (p : Packet) (work : List Work) → IsTied (configuration_of f).tables p work → AllTied (configuration_of f).tables (row (world_of f) p work).left
 row_tied f sound p [] h = tt

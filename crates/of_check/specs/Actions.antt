@@ -1,5 +1,5 @@
 -- ACTIONS WITHOUT EFFECT (OpenFlow 1.3.5, 4.5, 5.9, 5.10 and 5.12).
-use Rattle.std.specs.Prelude.{ℕ, ◌==◌, Bool, true, false, not, ◌&&◌, ◌||◌, List, [], ◌∷◌, take, Option, Some, None, is_none, if◌then◌else◌}
+use Rattle.std.specs.Prelude.{ℕ, ◌==◌, Bool, true, false, not, ◌&&◌, ◌||◌, List, take, Option, Some, None, is_none, if◌then◌else◌}
 use Rattle.std.specs.List.{list_any, suffix_len}
 use Rattle.of_layers.specs.{declared.field.Field.Field, declared.field.Field.TheVariants.InPort}
 use Rattle.of_oxm.specs.declared.match_field.MatchField.{MatchField}

@@ -1,10 +1,10 @@
 -- GROUPS THAT NOTHING NAMES (OpenFlow 1.3.5, 5.6 and 6.5).
-use Rattle.std.specs.Prelude.{ℕ, ◌==◌, Bool, true, false, not, ◌&&◌, ◌||◌, List}
+use Rattle.std.specs.Prelude.{ℕ, ◌==◌, Bool, true, false, ◌&&◌, ◌||◌, List}
 use Rattle.std.specs.List.{list_any}
 use Rattle.of_actions.specs.declared.action.Action.{Action}
 use Rattle.of_groups.specs.declared.group.GroupKind.{GroupKind}
 use Rattle.of_groups.specs.{declared.group.GroupKind.TheVariants.All, declared.group.GroupKind.TheVariants.Indirect, declared.group.GroupKind.TheVariants.FastFailover, Buckets.sends}
-use Rattle.of_text.specs.{Flows.Flow, Groups.TextBucket, Groups.TextGroup, Refusals.some_action, Configs.Configuration}
+use Rattle.of_text.specs.{Flows.Flow, Groups.TextGroup, Refusals.some_action, Configs.Configuration}
 
 -- the action sends the packet to the group
 abbrev pub is_to_group : ℕ → Action → Bool

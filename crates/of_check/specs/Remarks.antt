@@ -1,5 +1,5 @@
 -- THE REMARKS ON A CONFIGURATION, in the written order: by table, and in a table by age; then by group.
-use Rattle.std.specs.Prelude.{ℕ, zero, suc, ◌==◌, Bool, true, false, not, ◌&&◌, List, [], ◌∷◌, ◌++◌, Option, Some, None, if◌then◌else◌}
+use Rattle.std.specs.Prelude.{ℕ, zero, suc, ◌==◌, Bool, not, ◌&&◌, List, [], ◌∷◌, ◌++◌, Option, Some, None, if◌then◌else◌}
 use Rattle.std.specs.List.{list_any, flat_map}
 use Rattle.of_oxm.specs.declared.match_field.MatchField.{MatchField}
 use Rattle.of_actions.specs.{declared.instruction.Instruction.Instruction, declared.instruction.Instruction.TheVariants.Apply, declared.instruction.Instruction.TheVariants.Goto}

@@ -9,7 +9,7 @@ use Rattle.of_oxm.specs.SameMatch.{is_same_match}
 use Rattle.of_groups.specs.Buckets.{sends, any_sends, watches, is_badly_watched, are_fit, is_fit as is_fit_bucket}
 use Rattle.of_groups.specs.Groups.{group_number, find_group, is_there, any_named, any_watches, names}
 use Rattle.of_groups.specs.{declared.bucket.Bucket.Bucket, declared.group.Group.Group, declared.group.GroupKind.GroupKind}
-use Rattle.of_groups.specs.declared.group.GroupKind.TheVariants.{All, Indirect, FastFailover}
+use Rattle.of_groups.specs.declared.group.GroupKind.TheVariants.{Indirect, FastFailover}
 use Rattle.of_groups.specs.{Chains.names_next, Chains.is_chain, Faults.is_absent, Faults.is_bad_watch, Faults.is_not_one, Sound.is_fit_group, Sound.AreSound as AreSoundGroups}
 use Rattle.of_table.specs.Table.{FlowEntry, Table, empty_table, kept_flags, flags_number, bit}
 use Rattle.of_table.specs.Sound.{AreSoundEntries, Key, entry_key, is_same_key, are_unlike, is_entry_fit, is_checked}
@@ -142,22 +142,19 @@ fit_bare : (bs : List Bucket) → are_fit (map bucket_of (map bucket_text bs)) �
 fit_bare bs = rw (length_bare bs, all_bare is_fit_bucket (λ b. refl) bs) refl
 
 watch_bare : (kind : GroupKind) (bs : List Bucket) → is_bad_watch kind (map bucket_of (map bucket_text bs)) ≡ is_bad_watch kind bs
-watch_bare All bs = refl
-watch_bare Indirect bs = refl
 watch_bare FastFailover bs = any_bare is_badly_watched (λ b. refl) bs
+watch_bare other bs = refl
 
 one_bare : (kind : GroupKind) (bs : List Bucket) → is_not_one kind (map bucket_of (map bucket_text bs)) ≡ is_not_one kind bs
-one_bare All bs = refl
 one_bare Indirect bs = ap (λ (n : ℕ). not (eqb n 1)) (length_bare bs)
-one_bare FastFailover bs = refl
+one_bare other bs = refl
 
 sends_bare : (p : ℕ → Bool) (bs : List Bucket) → any_sends p (map bucket_of (map bucket_text bs)) ≡ any_sends p bs
 sends_bare p bs = any_bare (λ (b : Bucket). list_any (sends p) b.actions) (λ b. refl) bs
 
 watches_bare : (p : ℕ → Bool) (kind : GroupKind) (bs : List Bucket) → any_watches p kind (map bucket_of (map bucket_text bs)) ≡ any_watches p kind bs
-watches_bare p All bs = refl
-watches_bare p Indirect bs = refl
 watches_bare p FastFailover bs = any_bare (watches p) (λ b. refl) bs
+watches_bare p other bs = refl
 
 named_bare : (p : ℕ → Bool) (g : Group) → any_named p (bare g) ≡ any_named p g
 named_bare p g = rw (sends_bare p g.buckets, watches_bare p g.kind g.buckets) refl

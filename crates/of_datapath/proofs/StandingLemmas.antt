@@ -19,7 +19,7 @@ use Rattle.of_ports.specs.{declared.port.Port.Port, declared.counters.PortCount.
 use Rattle.of_text.specs.{Flows.Flow as TextFlow, Groups.TextGroup, Groups.groups_at, Refusals.names_absent, Kept.AllStandBehind, Configs.Configuration, Configs.IsConfig}
 use Rattle.of_text.proofs.{EntryLemmas.config_stands, FillLemmas.sixteen, GroupLemmas.config_groups, SoundLemmas.absent_same}
 use Rattle.of_datapath.specs.Datapath.{Forwarding, world_of, applied, arriving, count_port, framed, taken_in, through, tallied, all_tallied, sent, all_sent}
-use Rattle.of_datapath.specs.{declared.effect.Effect.Effect, declared.effect.Effect.TheVariants.Answer, declared.effect.Effect.TheVariants.Sent, declared.effect.Effect.TheVariants.Closed}
+use Rattle.of_datapath.specs.{declared.effect.Effect.Effect, declared.effect.Effect.TheVariants.Sent}
 use Rattle.of_datapath.specs.{declared.control.AsyncConfig.AsyncConfig, Told.effects_of, Told.held_after, Commands.names_absent_group}
 use Rattle.of_datapath.specs.{Loading.loaded_entry, Loading.loaded_table, Loading.loaded_tables, Buffers.HeldFrames}
 use Rattle.of_datapath.specs.Standing.{names_existing_groups, all_name_existing_groups, is_numbered, GroupsExist}
@@ -47,10 +47,8 @@ any_either p q r f (x ∷ xs) h k =
 
 has_either : (p q r : Action → Bool) → ((a : Action) → p a ≡ false → r a ≡ false → q a ≡ false) → (i : Instruction) → has_action p i ≡ false → has_action r i ≡ false → has_action q i ≡ false
 has_either p q r f (instructions.Apply xs) h k = any_either p q r f xs h k
-has_either p q r f instructions.Clear h k = refl
 has_either p q r f (instructions.Write xs) h k = any_either p q r f xs h k
-has_either p q r f (instructions.Metadata v m) h k = refl
-has_either p q r f (instructions.Goto t) h k = refl
+has_either p q r f other h k = refl
 
 all_so : {X : Type 0} (p q : X → Bool) → ((x : X) → p x ≡ true → q x ≡ true) → (xs : List X) → list_all p xs ≡ true → list_all q xs ≡ true
 all_so p q f [] h = refl
@@ -280,8 +278,7 @@ all_tallied_stand (c ∷ cs) f k = all_tallied_stand cs (tallied c f) (tallied_s
 
 sent_stands : (e : Effect) (f : Forwarding) → GroupsExist f → GroupsExist (sent e f)
 sent_stands (Sent port frame) f k = ports_stand _ f k
-sent_stands (Answer bytes) f k = k
-sent_stands Closed f k = k
+sent_stands other f k = k
 
 all_sent_stand : (es : List Effect) (f : Forwarding) → GroupsExist f → GroupsExist (all_sent es f)
 all_sent_stand [] f k = k

@@ -2,7 +2,7 @@
 use Rattle.std.proofs.Common.{◌≡◌, ℕ, suc, ◌+◌, ◌<◌, List, [], ◌∷◌, length, get_or, drop, refl, sym, ◌∙◌, ap, add-one, drop-cons, Option, eqb}
 use Rattle.std.{specs.List.position_or_len, specs.Prelude.slice_index_or, proofs.Math.ListN.get_or-map}
 use Rattle.of_table.specs.{Entries.no_entries, Entries.entry_numbers, Tables.NumberedTables, Tables.all_numbers}
-use Rattle.of_machine.specs.declared.data.Count.TheVariants.{Lookup, Matched, TxDropped, Group, Bucket}
+use Rattle.of_machine.specs.declared.data.Count.TheVariants.{Matched}
 use Rattle.of_machine.specs.declared.data.Count.{Count}
 use Rattle.of_datapath.specs.Datapath.{Forwarding, tallied, all_tallied, sent, all_sent}
 use Rattle.of_datapath.specs.{declared.effect.Effect.Effect, Buffers.Held, declared.reception.Reception.Reception, Applying.with_held, Applying.with_reception}
@@ -13,12 +13,9 @@ numbers_at : (n : NumberedTables) (t : ℕ) → entry_numbers (entries_at n t) �
 numbers_at n t = sym (get_or-map (λ x. entry_numbers x.entries) n.tables t no_entries)
 
 placed_same : (n m : NumberedTables) (c : Count) → all_numbers n ≡ all_numbers m → placed_count n c ≡ placed_count m c
-placed_same n m (Lookup t) e = refl
 placed_same n m (Matched t number bytes) e =
     ap (λ (ns : List ℕ). Matched t (position_or_len (λ k. eqb k number) ns) bytes) (numbers_at n t ∙ ap (λ (ns : List (List ℕ)). slice_index_or ns t []) e ∙ sym (numbers_at m t))
-placed_same n m (TxDropped port) e = refl
-placed_same n m (Group group bytes) e = refl
-placed_same n m (Bucket group place bytes) e = refl
+placed_same n m other e = refl
 
 -- one count more
 pub tallied_more : (first now : NumberedTables) (counts : List Count) (i : ℕ) (c d : Count) (f f' : Forwarding) (whole : Forwarding) → i < length counts → c ≡ get_or counts i d

@@ -1,10 +1,10 @@
 -- Whether an entry is kept.
-use Rattle.std.proofs.Common.{◌≡◌, ◌∙◌, ◌<◌, ℕ, zero, suc, Bool, true, false, List, [], ◌∷◌, map, Option, None, Some, ap, refl, sym, subst}
+use Rattle.std.proofs.Common.{◌≡◌, ◌∙◌, ◌<◌, ℕ, zero, suc, Bool, true, false, List, [], ◌∷◌, map, None, Some, ap, refl, sym, subst}
 use Rattle.std.specs.{Prelude.◌↔◌, Prelude.IsTrue, Prelude.not, Prelude.slice_get, List.Contains}
 use Rattle.of_table.specs.{declared.entry.Entry.Entry, Entries.entry_of, Entries.flows_of, Table.FlowEntry}
 use Rattle.of_datapath.specs.Datapath.{Forwarding}
 use Rattle.of_json.specs.declared.hits.Hit.{Hit}
-use Rattle.of_alike.specs.SameTables.{EntrySays, says_of}
+use Rattle.of_alike.specs.SameTables.{says_of}
 use Rattle.of_diff.specs.Changing.{entries_in}
 use Rattle.of_diff_report.specs.Changed.{IsInOther}
 

@@ -1,5 +1,5 @@
 -- Regions all of whose packets have some fields.
-use Rattle.std.proofs.Common.{◌≡◌, ◌⊎◌, ◌<◌, ◌+◌, ℕ, true, List, length, get_or, take, Option, sym, subst, inl, inr}
+use Rattle.std.proofs.Common.{◌≡◌, ◌<◌, ◌+◌, ℕ, true, List, length, get_or, take, Option, sym, subst, inl, inr}
 use Rattle.of_layers.specs.declared.field.Field.{Field}
 use Rattle.of_oxm.specs.{declared.match_field.MatchField.MatchField, Relations.matches_map}
 use Rattle.of_regions.specs.{declared.meeting.Meeting.TheVariants.Whole, declared.region.Region.Region, Meeting.Meets, Regions.InRegion, Searching.InSome}

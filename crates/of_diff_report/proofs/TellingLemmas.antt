@@ -1,5 +1,5 @@
 -- Differences that are told one after the other.
-use Rattle.std.proofs.Common.{◌≡◌, ◌∙◌, ◌⊎◌, ◌<◌, ◌+◌, ℕ, false, true, List, [], ◌∷◌, length, get_or, set, take, Some, ap, refl, sym, subst, inl, inr}
+use Rattle.std.proofs.Common.{◌≡◌, ◌∙◌, ◌<◌, ◌+◌, ℕ, false, true, List, [], ◌∷◌, length, get_or, set, take, Some, ap, refl, sym, subst, inl, inr}
 use Rattle.std.{specs.Prelude.slice_get, specs.List.Contains, proofs.lemmas.Option.slice_get-get_or, proofs.lemmas.Option.slice_get_within}
 use Rattle.of_datapath.specs.Datapath.{Forwarding}
 use Rattle.of_symbolic.proofs.PartLemmas.{first_or_next}

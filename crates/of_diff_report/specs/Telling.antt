@@ -1,5 +1,5 @@
 -- DIFFERENCES AS THEY ARE TOLD: each with the entries that its frame hits at both switches; those whose frames hit the same changed entries are told as one.
-use Rattle.std.specs.Prelude.{◌≡◌, ℕ, ◌==◌, ◌&&◌, ◌++◌, Bool, false, true, not, List, [], ◌∷◌, length, map, Option, Some, slice_get, slice_set}
+use Rattle.std.specs.Prelude.{◌≡◌, ℕ, ◌==◌, ◌&&◌, ◌++◌, Bool, false, true, not, List, [], ◌∷◌, length, map, Some, slice_get, slice_set}
 use Rattle.std.specs.{Borrow.Bor, List.AllByRecursion, List.Contains}
 use Rattle.of_datapath.specs.Datapath.{Forwarding}
 use Rattle.of_diff.specs.{declared.difference.Difference.Difference, declared.difference.Undecided.Undecided}

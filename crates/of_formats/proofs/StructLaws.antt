@@ -1,10 +1,10 @@
 -- What holds of every struct: what is written is read again, numbers that are read fit, and bytes with the same numbers are the same but for padding.
-use Rattle.std.proofs.Common.{◌≡◌, ℕ, zero, suc, ◌+◌, ◌^◌, ◌<◌, ◌≤◌, List, [], ◌∷◌, ◌++◌, length, get_or, take, drop, drop-cons, refl, sym, ap, ◌∙◌, arith}
-use Rattle.std.proofs.lemmas.List.{append-nil, append_assoc, length-append, length-drop, length-replicate, drop-drop, drop_at, get_or-drop}
-use Rattle.std.specs.Prelude.{replicate, slice_index}
+use Rattle.std.proofs.Common.{◌≡◌, ℕ, zero, suc, ◌+◌, ◌≤◌, List, [], ◌∷◌, ◌++◌, length, get_or, take, drop, drop-cons, refl, sym, ap, ◌∙◌, arith}
+use Rattle.std.proofs.lemmas.List.{append_assoc, length-append, length-drop, length-replicate, drop-drop, drop_at, get_or-drop}
+use Rattle.std.specs.Prelude.{replicate}
 use Rattle.byteorder.specs.{Endian.big_number, Endian.big_bytes, Numbers.big_from-lt, Numbers.big_number-reads_back, Numbers.length-bytes_high_first}
 use Rattle.of_wire.proofs.Numbers.{IsBytes, IsBytes-drop, big_bytes-big_number}
-use Rattle.of_formats.specs.Structs.{Slot, Struct, byte, number, plain, pad, slot_width, size, numbers, texts, bytes_from, written_with, FitsStruct, cleared}
+use Rattle.of_formats.specs.Structs.{Struct, byte, number, plain, pad, size, numbers, texts, bytes_from, written_with, FitsStruct, cleared}
 
 -- ---- a struct at a place is a struct at the front of what begins there
 

@@ -20,17 +20,11 @@ given_small v f = mod_below (v f) (2 ^ bit_count f) (pow_pos (bit_count f))
 pub protocol_small : (k : Transport) (v : Field → ℕ) → protocol_with k v < 2 ^ 8
 unfolding row_of
 protocol_small Nothing v = given_small v IpProto
-protocol_small Tcp v = omega arith
-protocol_small Udp v = omega arith
-protocol_small Icmpv4 v = omega arith
-protocol_small Icmpv6 v = omega arith
+protocol_small other v = omega arith
 
 pub size_small : (k : Transport) → size_with k ≤ 20
 size_small Nothing = omega arith
-size_small Tcp = omega arith
-size_small Udp = omega arith
-size_small Icmpv4 = omega arith
-size_small Icmpv6 = omega arith
+size_small other = omega arith
 
 total_small : (k : Transport) → 20 + size_with k < 2 ^ 16
 total_small k = omega (arith, size_small k)
@@ -50,10 +44,8 @@ never_zero_small false c h = h
 
 pub checksum_small : (around : ℕ) (k : Transport) (v : Field → ℕ) → carried_checksum around k v < 2 ^ 16
 checksum_small around Nothing v = omega arith
-checksum_small around Tcp v = below _
 checksum_small around Udp v = never_zero_small _ _ (below _)
-checksum_small around Icmpv4 v = below _
-checksum_small around Icmpv6 v = below _
+checksum_small around other v = below _
 
 -- ---- bytes
 
@@ -68,11 +60,9 @@ four_zeros (suc (suc (suc zero))) = omega arith
 four_zeros (suc (suc (suc (suc i)))) = omega arith
 
 bytes_behind_fit : (k : Transport) → AreBytes (bytes_behind k)
-bytes_behind_fit Nothing = no_bytes
-bytes_behind_fit Tcp = no_bytes
-bytes_behind_fit Udp = no_bytes
 bytes_behind_fit Icmpv4 = four_zeros
 bytes_behind_fit Icmpv6 = four_zeros
+bytes_behind_fit other = no_bytes
 
 -- ---- what an IP packet carries
 
@@ -99,32 +89,22 @@ none6 false false false = refl
 
 -- the kinds that IPv4 carries, and those that IPv6 carries
 abbrev pub Over4 : Transport → Type 0
-Over4 Nothing = Unit {0}
-Over4 Tcp = Unit {0}
-Over4 Udp = Unit {0}
-Over4 Icmpv4 = Unit {0}
 Over4 Icmpv6 = ⊥
+Over4 other = Unit {0}
 
 abbrev pub Over6 : Transport → Type 0
-Over6 Nothing = Unit {0}
-Over6 Tcp = Unit {0}
-Over6 Udp = Unit {0}
 Over6 Icmpv4 = ⊥
-Over6 Icmpv6 = Unit {0}
+Over6 other = Unit {0}
 
 kind4 : (k : Transport) (v : Field → ℕ) (sum : ℕ) → Over4 k → k ≡ whole_in (over_ipv4 (protocol_with k v)) (carried_size (carried_given k v sum))
 kind4 Nothing v sum o = none4 (given_number v IpProto == 6) (given_number v IpProto == 17) (given_number v IpProto == 1)
-kind4 Tcp v sum o = refl
-kind4 Udp v sum o = refl
-kind4 Icmpv4 v sum o = refl
 kind4 Icmpv6 v sum o = absurd o
+kind4 other v sum o = refl
 
 kind6 : (k : Transport) (v : Field → ℕ) (sum : ℕ) → Over6 k → k ≡ whole_in (over_ipv6 (protocol_with k v)) (carried_size (carried_given k v sum))
 kind6 Nothing v sum o = none6 (given_number v IpProto == 6) (given_number v IpProto == 17) (given_number v IpProto == 58)
-kind6 Tcp v sum o = refl
-kind6 Udp v sum o = refl
 kind6 Icmpv4 v sum o = absurd o
-kind6 Icmpv6 v sum o = refl
+kind6 other v sum o = refl
 
 -- fewer than eight bytes hold no extension header
 short : (a b : Bool) → (a && false && b) ≡ false
@@ -133,26 +113,17 @@ short false b = refl
 
 no_extension : (k : Transport) (v : Field → ℕ) → has_extension (protocol_with k v) (bytes_behind k) ≡ false
 no_extension Nothing v = short (is_fragment (given_number v IpProto) || has_options (given_number v IpProto)) (nat_le (extension_size (given_number v IpProto) []) 0)
-no_extension Tcp v = refl
-no_extension Udp v = refl
-no_extension Icmpv4 v = refl
-no_extension Icmpv6 v = refl
+no_extension other v = refl
 
 -- ---- bodies
 
 inside4 : (k : Transport) (v : Field → ℕ) (sum : ℕ) → 20 + carried_size (carried_given k v sum) ≡ min (20 + size_with k) (20 + carried_size (carried_given k v sum) + 0)
 inside4 Nothing v sum = refl
-inside4 Tcp v sum = refl
-inside4 Udp v sum = refl
-inside4 Icmpv4 v sum = refl
-inside4 Icmpv6 v sum = refl
+inside4 other v sum = refl
 
 inside6 : (k : Transport) (v : Field → ℕ) (sum : ℕ) → 0 + carried_size (carried_given k v sum) ≡ min (size_with k) (0 + carried_size (carried_given k v sum) + 0)
 inside6 Nothing v sum = refl
-inside6 Tcp v sum = refl
-inside6 Udp v sum = refl
-inside6 Icmpv4 v sum = refl
-inside6 Icmpv6 v sum = refl
+inside6 other v sum = refl
 
 arp_fits : (v : Field → ℕ) → IsArp (arp_given v) []
 unfolding row_of
@@ -224,30 +195,14 @@ tags_fit Tagged v = ((omega arith, (given_small v VlanPcp, (omega arith, (omega 
 type_fits : (s : Shape) (v : Field → ℕ) → type_given s v < 2 ^ 16
 unfolding row_of
 type_fits shapes.Bare v = given_small v EthType
-type_fits shapes.Arp v = omega arith
-type_fits shapes.Ipv4 v = omega arith
-type_fits shapes.Ipv4Tcp v = omega arith
-type_fits shapes.Ipv4Udp v = omega arith
-type_fits shapes.Ipv4Icmp v = omega arith
-type_fits shapes.Ipv6 v = omega arith
-type_fits shapes.Ipv6Tcp v = omega arith
-type_fits shapes.Ipv6Udp v = omega arith
-type_fits shapes.Ipv6Icmp v = omega arith
+type_fits other v = omega arith
 
 no_tag : {P : Type 0} → false ≡ true → P
 no_tag e = absurd cc
 
 last_fits : (s : Shape) (v : Field → ℕ) → is_tag_type (type_given s v) ≡ true → length (encoded (body_cells (body_given s v))) < 32
 last_fits shapes.Bare v e = omega arith
-last_fits shapes.Arp v e = no_tag e
-last_fits shapes.Ipv4 v e = no_tag e
-last_fits shapes.Ipv4Tcp v e = no_tag e
-last_fits shapes.Ipv4Udp v e = no_tag e
-last_fits shapes.Ipv4Icmp v e = no_tag e
-last_fits shapes.Ipv6 v e = no_tag e
-last_fits shapes.Ipv6Tcp v e = no_tag e
-last_fits shapes.Ipv6Udp v e = no_tag e
-last_fits shapes.Ipv6Icmp v e = no_tag e
+last_fits other v e = no_tag e
 
 ends_fit : (v : Field → ℕ) → FitsItems addresses (ends_given v)
 unfolding row_of

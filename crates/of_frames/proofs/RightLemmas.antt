@@ -240,10 +240,7 @@ icmp_total a c = omega arith
 
 abbrev Carries : Transport → Type 0
 Carries Nothing = ⊥
-Carries Tcp = Unit {0}
-Carries Udp = Unit {0}
-Carries Icmpv4 = Unit {0}
-Carries Icmpv6 = Unit {0}
+Carries other = Unit {0}
 
 own_total : (k : Transport) (v : Field → ℕ) (c : ℕ) → Carries k → total (own_words k v c) ≡ own_sum k v + c
 own_total Nothing v c h = absurd h
@@ -281,13 +278,12 @@ icmp_encoded t d c h = sym (append_assoc (bits 8 t) (bits 8 d) (bits 16 c ++ [])
 
 own_encoded : (k : Transport) (v : Field → ℕ) (c : ℕ) → encoded (cells_in (items_of k) (numbers_given k v c)) ≡ as_words (own_words k v c)
 unfolding row_of
-own_encoded Nothing v c = refl
 own_encoded Tcp v c =
     (λ j. bits 16 (given_number v TcpSrc) ++ (bits 16 (given_number v TcpDst) ++ (zeros j ++ (zeros j ++ (bits 16 0x5000 ++ (bits 16 0 ++ (bits 16 c ++ (bits 16 0 ++ []))))))))
     ∙ tcp_regrouped (bits 16 (given_number v TcpSrc)) (bits 16 (given_number v TcpDst)) (bits 16 0) (bits 16 0x5000) (bits 16 c)
-own_encoded Udp v c = refl
 own_encoded Icmpv4 v c = icmp_encoded (given_number v Icmpv4Type) (given_number v Icmpv4Code) c (given_small v Icmpv4Code)
 own_encoded Icmpv6 v c = icmp_encoded (given_number v Icmpv6Type) (given_number v Icmpv6Code) c (given_small v Icmpv6Code)
+own_encoded other v c = refl
 
 own_are : (k : Transport) (v : Field → ℕ) (c : ℕ) → c < 65536 → words (cells_in (items_of k) (numbers_given k v c)) ≡ own_words k v c
 own_are k v c h = words_are (cells_in (items_of k) (numbers_given k v c)) (own_words k v c) (own_small k v c h).are (own_encoded k v c)
@@ -301,11 +297,8 @@ summed2 x a b = omega arith
 
 -- what is around counts, unless it is ICMP over IPv4
 abbrev counted : ℕ → Transport → ℕ
-counted around Nothing = around
-counted around Tcp = around
-counted around Udp = around
 counted around Icmpv4 = 0
-counted around Icmpv6 = around
+counted around other = around
 
 zero_first : (x y : ℕ) → 0 + x + y ≡ x + y
 zero_first x y = omega arith
@@ -357,28 +350,20 @@ icmp4 v left c e =
 -- ---- frames
 
 header_by : (s : Shape) (v : Field → ℕ) → is_ipv4_shape s ≡ true → header_is_right (body_given s v) ≡ true
-header_by shapes.Bare v e = absurd cc
-header_by shapes.Arp v e = absurd cc
 header_by shapes.Ipv4 v e = header_right Nothing v
 header_by shapes.Ipv4Tcp v e = header_right Tcp v
 header_by shapes.Ipv4Udp v e = header_right Udp v
 header_by shapes.Ipv4Icmp v e = header_right Icmpv4 v
-header_by shapes.Ipv6 v e = absurd cc
-header_by shapes.Ipv6Tcp v e = absurd cc
-header_by shapes.Ipv6Udp v e = absurd cc
-header_by shapes.Ipv6Icmp v e = absurd cc
+header_by other v e = absurd cc
 
 carried_by : (s : Shape) (v : Field → ℕ) → is_some (protocol_of s) ≡ true → carried_is_right (numbers_beside s) (body_given s v) ≡ true
-carried_by shapes.Bare v e = absurd cc
-carried_by shapes.Arp v e = absurd cc
-carried_by shapes.Ipv4 v e = absurd cc
 carried_by shapes.Ipv4Tcp v e = over4 Tcp v (left_out (body_given shapes.Ipv4Tcp v)) tt refl
 carried_by shapes.Ipv4Udp v e = over4 Udp v (left_out (body_given shapes.Ipv4Udp v)) tt refl
 carried_by shapes.Ipv4Icmp v e = icmp4 v (left_out (body_given shapes.Ipv4Icmp v)) _ refl
-carried_by shapes.Ipv6 v e = absurd cc
 carried_by shapes.Ipv6Tcp v e = over6 Tcp v (left_out (body_given shapes.Ipv6Tcp v)) tt refl
 carried_by shapes.Ipv6Udp v e = over6 Udp v (left_out (body_given shapes.Ipv6Udp v)) tt refl
 carried_by shapes.Ipv6Icmp v e = over6 Icmpv6 v (left_out (body_given shapes.Ipv6Icmp v)) tt refl
+carried_by other v e = absurd cc
 
 pub frames_header_right : (s : Shape) (t : Tagging) (v : Field → ℕ) → is_ipv4_shape s ≡ true → IsTrue (header_is_right (layers_of (frame_given s t v)).body)
 frames_header_right s t v e = ap (λ (l : Layers). header_is_right l.body) (given_layers s t v) ∙ header_by s v e

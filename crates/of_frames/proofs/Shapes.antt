@@ -280,16 +280,14 @@ some_cells f l h =
 
 -- what the body carries, as its shape says it
 abbrev IsCarrying : Body → Type 0
-IsCarrying (Plain rest) = Unit {0}
-IsCarrying (Arp ns rest) = Unit {0}
 IsCarrying (Ipv4 ns opts c rest) = MayCarry4 c.kind (get_or ns 9 0)
 IsCarrying (Ipv6 ns es c rest) = (p : ℕ) × MayCarry6 c.kind p
+IsCarrying other = Unit {0}
 
 is_carrying : (type : ℕ) (b : Body) → IsBody type b → IsCarrying b
-is_carrying type (Plain rest) h = tt
-is_carrying type (Arp ns rest) h = tt
 is_carrying type (Ipv4 ns opts c rest) h = carried4 c (get_or ns 7 0) (get_or ns 9 0) h.1.carries
 is_carrying type (Ipv6 ns es c rest) h = let n = front_names ns es c h.1.numbers h.1.chain in (n.protocol, n.carried)
+is_carrying type other h = tt
 
 -- ---- the fields of a frame, by its shape
 
@@ -408,18 +406,14 @@ type_found l h = front_lacks 5 l h refl refl (cells_in ether_type (l.type ∷ []
 protocol4 : (k : Transport) (p : ℕ) → MayCarry4 k p → Obeys (of_shape (rules_of.ipv4_shape k) IpProto) (Some p)
 unfolding row_of
 protocol4 Nothing p m = ap Some (zero_bits p)
-protocol4 Tcp p m = rw m refl
-protocol4 Udp p m = rw m refl
-protocol4 Icmpv4 p m = rw m refl
 protocol4 Icmpv6 p m = absurd m
+protocol4 other p m = rw m refl
 
 protocol6 : (k : Transport) (p : ℕ) → MayCarry6 k p → Obeys (of_shape (rules_of.ipv6_shape k) IpProto) (Some p)
 unfolding row_of
 protocol6 Nothing p m = ap Some (zero_bits p)
-protocol6 Tcp p m = rw m refl
-protocol6 Udp p m = rw m refl
-protocol6 Icmpv6 p m = rw m refl
 protocol6 Icmpv4 p m = absurd m
+protocol6 other p m = rw m refl
 
 joined : (n v : ℕ) (a b c : List Cell) → look_up n (a ++ b) ≡ Some v → look_up n (a ++ (b ++ c)) ≡ Some v
 joined n v a b c h =
@@ -476,17 +470,15 @@ carried_none n Icmpv6 a b c d e = rw e refl
 
 vid_inside : (b : Body) → in_body (number_of VlanVid) b ≡ false
 unfolding row_of
-vid_inside (Plain rest) = refl
-vid_inside (Arp ns rest) = refl
 vid_inside (Ipv4 ns opts c rest) = carried_none 6 c.kind refl refl refl refl refl
 vid_inside (Ipv6 ns es c rest) = carried_none 6 c.kind refl refl refl refl refl
+vid_inside other = refl
 
 pcp_inside : (b : Body) → in_body (number_of VlanPcp) b ≡ false
 unfolding row_of
-pcp_inside (Plain rest) = refl
-pcp_inside (Arp ns rest) = refl
 pcp_inside (Ipv4 ns opts c rest) = carried_none 7 c.kind refl refl refl refl refl
 pcp_inside (Ipv6 ns es c rest) = carried_none 7 c.kind refl refl refl refl refl
+pcp_inside other = refl
 
 vid_fits : (t : List ℕ) → FitsItems inner_tag t → get_or t 3 0 < 4096
 vid_fits [] f = absurd f

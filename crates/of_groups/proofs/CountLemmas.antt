@@ -6,7 +6,7 @@ use Rattle.of_actions.specs.Rising.{is_ascending}
 use Rattle.of_groups.specs.Buckets.{used_bucket, used_at, any_sends, watches, sends, is_badly_watched}
 use Rattle.of_groups.specs.Groups.{group_number, find_group, is_there, any_watches, any_named, names, at_group}
 use Rattle.of_groups.specs.{declared.bucket.Bucket.Bucket, declared.group.Group.Group, declared.group.GroupKind.GroupKind}
-use Rattle.of_groups.specs.declared.group.GroupKind.TheVariants.{All, Indirect, FastFailover}
+use Rattle.of_groups.specs.declared.group.GroupKind.TheVariants.{Indirect, FastFailover}
 use Rattle.of_groups.specs.{Chains.names_next, Chains.is_chain, Faults.is_absent, Faults.is_bad_watch, Faults.is_not_one, Sound.is_fit_group, Sound.AreSound}
 use Rattle.of_groups.proofs.{BucketLemmas.used_fit, BucketLemmas.used_length, Finding.place_later, Finding.any_position, PutLemmas.none_as_low}
 
@@ -151,19 +151,16 @@ used_watch p same zero bytes (b ∷ buckets) = ap (λ (x : Bool). x || list_any 
 used_watch p same (suc place) bytes (b ∷ buckets) = ap (λ (x : Bool). p b || x) (used_watch p same place bytes buckets)
 
 used_watched : (p : ℕ → Bool) (kind : GroupKind) (place bytes : ℕ) (buckets : List Bucket) → any_watches p kind (used_at place bytes buckets) ≡ any_watches p kind buckets
-used_watched p All place bytes buckets = refl
-used_watched p Indirect place bytes buckets = refl
 used_watched p FastFailover place bytes buckets = used_watch (watches p) (λ b n. refl) place bytes buckets
+used_watched p other place bytes buckets = refl
 
 used_bad : (kind : GroupKind) (place bytes : ℕ) (buckets : List Bucket) → is_bad_watch kind (used_at place bytes buckets) ≡ is_bad_watch kind buckets
-used_bad All place bytes buckets = refl
-used_bad Indirect place bytes buckets = refl
 used_bad FastFailover place bytes buckets = used_watch is_badly_watched (λ b n. refl) place bytes buckets
+used_bad other place bytes buckets = refl
 
 used_one : (kind : GroupKind) (place bytes : ℕ) (buckets : List Bucket) → is_not_one kind (used_at place bytes buckets) ≡ is_not_one kind buckets
-used_one All place bytes buckets = refl
 used_one Indirect place bytes buckets = ap (λ (n : ℕ). not (eqb n 1)) (used_length place bytes buckets)
-used_one FastFailover place bytes buckets = refl
+used_one other place bytes buckets = refl
 
 pub keeps_used : (g : Group) (place bytes : ℕ) → Keeps g (record g { buckets = used_at place bytes g.buckets })
 keeps_used g place bytes = record {

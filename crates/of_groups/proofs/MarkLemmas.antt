@@ -1,5 +1,5 @@
 -- Marks of the groups after which so many more come.
-use Rattle.std.proofs.Common.{◌≡◌, ℕ, zero, suc, Bool, true, false, cond, eqb, List, [], ◌∷◌, Option, Some, None, refl, sym, ap, ◌∙◌, arith}
+use Rattle.std.proofs.Common.{◌≡◌, ℕ, zero, suc, Bool, true, false, cond, eqb, List, [], ◌∷◌, Option, Some, None, refl, sym, ap, ◌∙◌}
 use Rattle.std.{specs.Prelude.map, specs.Option.option_map_or, proofs.lemmas.Bool.eqb-true, proofs.Math.Path.fun_ext}
 use Rattle.of_groups.specs.{declared.group.Group.Group, Groups.find_group, Groups.is_there, Groups.any_named, Chains.chain, Chains.leads, Rounds.length_from, Rounds.mark_at, Rounds.marks_of}
 use Rattle.of_groups.proofs.{ChainLemmas.there_found, RoundLemmas.mark_is}

@@ -4,7 +4,7 @@ use Rattle.std.{specs.Prelude.◌&&◌, specs.Prelude.◌||◌, specs.List.list_
 use Rattle.of_wire.specs.declared.limits.TheConstants.{OFPG_ANY}
 use Rattle.of_actions.specs.{declared.action.Action.Action, declared.action.Action.TheVariants.Group as ToGroup}
 use Rattle.of_groups.specs.{declared.bucket.Bucket.Bucket, declared.group.Group.Group, declared.group.GroupKind.GroupKind}
-use Rattle.of_groups.specs.declared.group.GroupKind.TheVariants.{All, Indirect, FastFailover}
+use Rattle.of_groups.specs.declared.group.GroupKind.TheVariants.{FastFailover}
 use Rattle.of_groups.specs.{Buckets.sends, Buckets.any_sends, Buckets.watches, Groups.any_watches, Groups.any_named, Groups.names}
 
 -- ---- tests
@@ -46,10 +46,9 @@ any_sends_more p q f buckets h =
     (λ b. any_more (sends p) (sends q) b.actions (sends_more p q f)) h
 
 pub any_watches_more : (p q : ℕ → Bool) → ((n : ℕ) → q n ≡ true → p n ≡ true) → (kind : GroupKind) (buckets : List Bucket) → any_watches q kind buckets ≡ true → any_watches p kind buckets ≡ true
-any_watches_more p q f All buckets h = h
-any_watches_more p q f Indirect buckets h = h
 any_watches_more p q f FastFailover buckets h =
     any_more (watches p) (watches q) buckets (λ b. and_more (not (eqb b.watch_group OFPG_ANY)) (p b.watch_group) (q b.watch_group) (f b.watch_group)) h
+any_watches_more p q f other buckets h = h
 
 pub any_named_more : (p q : ℕ → Bool) → ((n : ℕ) → q n ≡ true → p n ≡ true) → (g : Group) → any_named q g ≡ true → any_named p g ≡ true
 any_named_more p q f g h =
@@ -103,11 +102,10 @@ and_second true b h = h
 and_second false b h = absurd (cc)
 
 any_watched_number : (p : ℕ → Bool) (kind : GroupKind) (buckets : List Bucket) → any_watches p kind buckets ≡ true → (m : ℕ) × (any_watches (λ n. eqb n m) kind buckets ≡ true) × (p m ≡ true)
-any_watched_number p All buckets h = absurd (cc)
-any_watched_number p Indirect buckets h = absurd (cc)
 any_watched_number p FastFailover buckets h =
     let b = any_passing (watches p) buckets h in
     (b.0.watch_group, b.2 (watches (λ n. eqb n b.0.watch_group)) (watched_number p b.0 b.1), and_second (not (eqb b.0.watch_group OFPG_ANY)) (p b.0.watch_group) b.1)
+any_watched_number p other buckets h = absurd (cc)
 
 pub or_first : (a b : Bool) → a ≡ true → (a || b) ≡ true
 or_first true b h = refl

@@ -5,7 +5,7 @@ use Rattle.std.specs.{List.list_any, List.list_all, List.range_with_len, List.po
 use Rattle.std.proofs.lemmas.Bool.Decides.{nat_tests}
 use Rattle.of_actions.specs.{declared.action.Action.Action, Supported.are_supported}
 use Rattle.of_groups.specs.{declared.bucket.Bucket.Bucket, declared.group.Group.Group, declared.group.GroupKind.GroupKind}
-use Rattle.of_groups.specs.declared.group.GroupKind.TheVariants.{All, Indirect, FastFailover}
+use Rattle.of_groups.specs.declared.group.GroupKind.TheVariants.{FastFailover}
 use Rattle.of_groups.specs.{Buckets.is_fit, Buckets.are_fit, Buckets.sends, Buckets.any_sends, Groups.find_group, Groups.names, Groups.bucket_at, Chains.chain, Chains.names_next}
 use Rattle.of_groups.specs.{Liveness.is_live_bucket, Liveness.is_live_group, Liveness.places_of, Liveness.chosen, Sound.is_fit_group, Sound.AreSound}
 use Rattle.of_groups.proofs.{NameLemmas.or_first, ChainLemmas.there_found, ChainLemmas.both_true, ChainLaws.chain_falls, ChainLaws.chain_there, LiveLemmas.range_length, CountLemmas.place_is}
@@ -65,18 +65,16 @@ first_below p buckets (Some i) e =
     (grind (arith, nat_tests), tt)
 
 places_below : (port group : ℕ → Bool) (kind : GroupKind) (buckets : List Bucket) → AllBelow (length buckets) (places_of port group kind buckets)
-places_below port group All buckets = range_below (length buckets) 0 (length buckets) (omega arith)
-places_below port group Indirect buckets = range_below (length buckets) 0 (length buckets) (omega arith)
 places_below port group FastFailover buckets = first_below (is_live_bucket port group) buckets (position (is_live_bucket port group) buckets) refl
+places_below port group other buckets = range_below (length buckets) 0 (length buckets) (omega arith)
 
 at_most_one : (o : Option ℕ) → length (option_to_list o) ≤ 1
 at_most_one None = omega arith
 at_most_one (Some i) = omega arith
 
 places_few : (port group : ℕ → Bool) (kind : GroupKind) (buckets : List Bucket) → length buckets ≤ 16 → length (places_of port group kind buckets) ≤ 16
-places_few port group All buckets few = let l = range_length (length buckets) in omega (arith, l, few)
-places_few port group Indirect buckets few = let l = range_length (length buckets) in omega (arith, l, few)
 places_few port group FastFailover buckets few = let l = at_most_one (position (is_live_bucket port group) buckets) in omega (arith, l)
+places_few port group other buckets few = let l = range_length (length buckets) in omega (arith, l, few)
 
 -- ---- buckets that run
 

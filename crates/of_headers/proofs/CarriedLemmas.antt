@@ -2,7 +2,7 @@
 use Rattle.std.proofs.Common.{◌≡◌, ℕ, ◌+◌, ◌-◌, ◌*◌, ◌<◌, ◌≤◌, min, Bool, true, false, cond, List, [], ◌∷◌, ◌++◌, length, get_or, take, drop, refl, sym, ap, ◌∙◌, arith}
 use Rattle.std.{specs.Prelude.nat_le, specs.Option.option_or, proofs.lemmas.Bool.leb-true}
 use Rattle.std.proofs.lemmas.List.{get_or-drop, get_or-take, length-drop, length-take}
-use Rattle.of_layers.specs.declared.transport.Transport.TheVariants.{Nothing, Tcp, Udp, Icmpv4, Icmpv6}
+use Rattle.of_layers.specs.declared.transport.Transport.TheVariants.{Nothing, Tcp, Udp}
 use Rattle.of_layers.specs.Layers.{size_of, items_of, cells_in, byte_cells, carried_cells, body_cells, ipv4}
 use Rattle.of_layers.specs.Reading.{word, double, numbers_of, whole_in, carried_of, header_size, is_ipv4, ipv4_of, ipv4_numbers, ipv4_kind, ipv4_inside}
 use Rattle.of_layers.specs.{declared.transport.Transport.Transport, Looking.look_up}
@@ -37,12 +37,7 @@ numbers_same Udp s t h =
     let c = word_same s t 8 4 h (omega arith) in
     let d = word_same s t 8 6 h (omega arith) in
     λ i. a i ∷ b i ∷ c i ∷ d i ∷ []
-numbers_same Icmpv4 s t h =
-    let a = h 0 (omega arith) in
-    let b = h 1 (omega arith) in
-    let c = word_same s t 4 2 h (omega arith) in
-    λ i. a i ∷ b i ∷ c i ∷ []
-numbers_same Icmpv6 s t h =
+numbers_same other s t h = 
     let a = h 0 (omega arith) in
     let b = h 1 (omega arith) in
     let c = word_same s t 4 2 h (omega arith) in

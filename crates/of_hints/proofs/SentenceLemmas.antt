@@ -3,7 +3,7 @@ use Rattle.std.proofs.Common.{ℕ, ◌+◌, Bool, true, false, cond, List, [], �
 use Rattle.std.specs.{Prelude.IsSome, Prelude.IfSome, List.AllByRecursion, List.flat_map, Option.option_map_or}
 use Rattle.of_wire.specs.{declared.code.Code.Code, Refusals.first_of}
 use Rattle.of_oxm.specs.declared.match_field.MatchField.{MatchField}
-use Rattle.of_actions.specs.declared.instruction.Instruction.TheVariants.{Apply, Clear, Write, Metadata, Goto}
+use Rattle.of_actions.specs.declared.instruction.Instruction.TheVariants.{Apply, Write, Goto}
 use Rattle.of_actions.specs.{declared.action.Action.Action, declared.instruction.Instruction.Instruction}
 use Rattle.of_actions.specs.declared.action.Action.TheVariants as actions
 use Rattle.of_groups.specs.declared.group.Group.{Group}
@@ -51,17 +51,12 @@ list_said xs = all_both HasSentence (flat_map text_action_refusals (take 64 xs))
 instruction_said : (s : Instruction) → AreSaid (instruction_refusals s)
 unfolding instruction_refusals
 instruction_said (Apply xs) = list_said xs
-instruction_said Clear = tt
 instruction_said (Write xs) = list_said xs
-instruction_said (Metadata value mask) = tt
-instruction_said (Goto table) = tt
+instruction_said other = tt
 
 goto_said : (table : ℕ) (s : Instruction) → AreSaid (goto_refusals table s)
-goto_said table (Apply xs) = tt
-goto_said table Clear = tt
-goto_said table (Write xs) = tt
-goto_said table (Metadata value mask) = tt
 goto_said table (Goto to) = (refl, tt)
+goto_said table other = tt
 
 match_said : (m : List MatchField) → AreSaid (match_refusals m)
 unfolding match_refusals

@@ -7,7 +7,7 @@ use Rattle.of_text.specs.declared.assembling.FillError.TheVariants as fills
 use Rattle.of_import.specs.Imports.{HasBegun, IsConfigOf, IsFilled, IsImport, IsImportText, IsTextOf, NoImport, RefusedAt, RefusedOf, kept_in, notes_for, parsed}
 use Rattle.of_import.specs.{declared.parsed_lines.FlowLine.FlowLine, declared.parsed_lines.GroupLine.GroupLine, ParsedLinesViews.view_flow_line, ParsedLinesViews.view_group_line}
 use Rattle.of_import.specs.{declared.kept.LineRefusal.LineRefusal, declared.kept.KeptLines.KeptLines, declared.parsed_lines.LineFaults.LineFaults, declared.import.ImportError.ImportError}
-use Rattle.of_import.specs.declared.import.ImportError.TheVariants.{NoMemory, Faults, Refused, TooMany}
+use Rattle.of_import.specs.declared.import.ImportError.TheVariants.{NoMemory, Refused}
 use Rattle.of_import.specs.{Kept.Kept, Kept.flows_in, Kept.groups_in, KeptViews.view_kept, KeptViews.view_refusal, ParsedLines.FlowAt}
 use Rattle.of_import.proofs.RowLemmas.{parsed_group_lines, parsed_flow_lines}
 use Rattle.of_ovs_lines.specs.declared.mode.Mode.{Mode}
@@ -24,9 +24,8 @@ config_is (Err e) gs fs groups flows p q h = tt
 
 refused_by : (gs : List (ℕ × TextGroup)) (fs : List FlowAt) (e : ImportError) → RefusedAt (map (λ g. g.0) gs ++ map (λ f. f.line) fs) (groups_in gs) (flows_in fs) e → RefusedOf gs fs e
 refused_by gs fs NoMemory h = tt
-refused_by gs fs (Faults faults refused) h = absurd h
 refused_by gs fs (Refused line code) h = h
-refused_by gs fs (TooMany count) h = absurd h
+refused_by gs fs other h = absurd h
 
 lines_parsed : (gs : List GroupLine) (fs : List FlowLine) → map (λ g. g.line) gs ++ map (λ f. f.line) fs ≡ map (λ g. g.0) (map view_group_line gs) ++ map (λ f. f.line) (map view_flow_line fs)
 lines_parsed gs fs = ap (λ (xs : List ℕ). xs ++ map (λ f. f.line) fs) (parsed_group_lines gs) ∙ ap (λ (xs : List ℕ). map (λ g. g.0) (map view_group_line gs) ++ xs) (parsed_flow_lines fs)
@@ -62,6 +61,5 @@ made_text lines mode k faults refused moves notes text changed b t r = record {
 -- one flow is refused beside the others
 pub refusal_stops : (lines : List (List ℕ)) (mode : Mode) (k : Kept) (e : ImportError) → k ≡ kept_in (parsed mode lines) → RefusedOf k.groups k.flows e → NoImport lines mode e
 refusal_stops lines mode k NoMemory kh h = tt
-refusal_stops lines mode k (Faults faults refused) kh h = absurd h
 refusal_stops lines mode k (Refused line code) kh h = subst (λ (x : Kept). RefusedOf x.groups x.flows (Refused line code)) kh h
-refusal_stops lines mode k (TooMany count) kh h = absurd h
+refusal_stops lines mode k other kh h = absurd h

@@ -3,7 +3,7 @@ use Rattle.std.proofs.Common.{◌≡◌, ℕ, true, List, [], ◌∷◌, ◌++�
 use Rattle.std.specs.{Prelude.map, Prelude.nat_lt, List.AllByRecursion, List.flat_map, List.list_all}
 use Rattle.of_actions.specs.{declared.action.Action.Action, Rising.is_ascending}
 use Rattle.of_lines.specs.declared.order.Place.{Place}
-use Rattle.of_lines.specs.declared.order.Place.TheVariants.{Start, InGroup, InBucket, InFlow}
+use Rattle.of_lines.specs.declared.order.Place.TheVariants.{InGroup, InBucket}
 use Rattle.of_lines.specs.declared.row.Row.{Row}
 use Rattle.of_lines.specs.declared.row.Row.TheVariants as rows
 use Rattle.of_text.specs.Groups.{TextBucket, TextGroup, bucket_rows, group_rows, rows_of_groups}
@@ -16,10 +16,9 @@ use Rattle.of_ovs_lines.{specs.Sound.IsSoundFlow, proofs.SoundLemmas.and_parts}
 
 -- a place in the group of that number
 abbrev pub IsIn : ℕ → Place → Type 0
-IsIn id Start = ⊥
 IsIn id (InGroup n) = n ≡ id
 IsIn id (InBucket n) = n ≡ id
-IsIn id (InFlow least) = ⊥
+IsIn id other = ⊥
 
 -- lines that lead to a place in it
 record Leads (id : ℕ) (from : Place) (lines : List Row) : Type 0 where
@@ -37,10 +36,9 @@ actions_lead id (x ∷ xs) = actions_lead id xs
 
 bucket_leads : (id : ℕ) (p : Place) → IsIn id p → (b : TextBucket) → Leads id p (bucket_rows b)
 unfolding following
-bucket_leads id Start h b = absurd h
 bucket_leads id (InGroup n) h b = record { to = InBucket n; is = actions_lead n b.actions; within = h }
 bucket_leads id (InBucket n) h b = record { to = InBucket n; is = actions_lead n b.actions; within = h }
-bucket_leads id (InFlow least) h b = absurd h
+bucket_leads id other h b = absurd h
 
 buckets_lead : (id : ℕ) (p : Place) → IsIn id p → (bs : List TextBucket) → Leads id p (flat_map bucket_rows bs)
 buckets_lead id p h [] = record { to = p; is = refl; within = h }
@@ -50,10 +48,9 @@ buckets_lead id p h (b ∷ bs) =
 
 begins_in : (id : ℕ) (p : Place) → IsIn id p → (g : TextGroup) → nat_lt id g.head.id ≡ true → following_all p (group_rows g) ≡ following_all (InGroup g.head.id) (flat_map bucket_rows g.buckets)
 unfolding following
-begins_in id Start h g k = absurd h
 begins_in id (InGroup n) h g k = rw (h, k) refl
 begins_in id (InBucket n) h g k = rw (h, k) refl
-begins_in id (InFlow least) h g k = absurd h
+begins_in id other h g k = absurd h
 
 -- groups of higher numbers, from a place in a group
 groups_lead : (id : ℕ) (p : Place) → IsIn id p → (gs : List TextGroup) → list_all (λ g. nat_lt id g.head.id) gs ≡ true → is_ascending (λ g. g.head.id) gs ≡ true → (q : Place) × (following_all p (rows_of_groups gs) ≡ Some q)

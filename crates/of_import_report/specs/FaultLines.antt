@@ -1,7 +1,6 @@
 -- LINES THAT ARE REFUSED FOR THEIR WORDS, as standard error names them.
-use Rattle.std.specs.Prelude.{ℕ, ◌==◌, List, [], ◌∷◌, ◌++◌, codes, decimal, length, map, take, Option, Some, None, if◌then◌else◌}
+use Rattle.std.specs.Prelude.{ℕ, ◌==◌, List, [], ◌∷◌, ◌++◌, codes, decimal, length, map, take, if◌then◌else◌}
 use Rattle.std.specs.List.{flat_map}
-use Rattle.of_ovs_words.specs.{declared.why.Why.Why, Words.word_name}
 use Rattle.of_ovs_words.specs.declared.why.Why.TheVariants as whys
 use Rattle.of_values.specs.Origins.{printable}
 use Rattle.of_import.specs.declared.parsed_lines.LineFaults.{LineFaults}

@@ -208,9 +208,7 @@ record FormPasses (packet_out : Bool) (s : Argument) (rest : List ℕ) : Type 0 
 form_passes : (packet_out : Bool) (s : Argument) (rest : List ℕ) → Says 2 (said_cells s) rest → is_allowed packet_out s ≡ true → FormPasses packet_out s rest
 unfolding set_refusals
 form_passes packet_out Nothing rest y served = record { len = y.0; some = omega arith; eights = refl; none = rw y.0 refl; at = refl }
-form_passes packet_out (Byte n) rest y served = record { len = y.0; some = omega arith; eights = refl; none = rw y.0 refl; at = rw y.1.0 refl }
 form_passes packet_out (Tag type) rest y served = record { len = y.0; some = omega arith; eights = refl; none = rw (y.0, y.1.0, served) refl; at = rw y.1.0 refl }
-form_passes packet_out (Word n) rest y served = record { len = y.0; some = omega arith; eights = refl; none = rw y.0 refl; at = rw y.1.0 refl }
 form_passes packet_out (Port port max_len) rest y served =
     let ok : is_port packet_out port ≡ true = grind (arith, nat_tests, served) in
     record { len = y.0; some = omega arith; eights = refl; none = rw (y.0, y.1.0, ok) refl; at = rw (y.1.0, y.1.1.0) refl }
@@ -229,6 +227,7 @@ form_passes packet_out (FieldValue f value) rest y served =
     let most = bytes_most f in
     let whole : 2 + size (said_cells (FieldValue f value)) ≡ set_len f = omega arith in
     record { len = y.0 ∙ sym whole; some = omega (arith, whole); eights = ap (λ (n : ℕ). n % 8) whole ∙ omega arith; none = rw (field, bytes', len', value') refl; at = rw (field, value_is) refl }
+form_passes packet_out other rest y served = record { len = y.0; some = omega arith; eights = refl; none = rw y.0 refl; at = rw y.1.0 refl }
 
 -- what bytes say that begin with the struct of an action that may be sent
 pub record Passes (packet_out : Bool) (a : Action) (rest : List ℕ) : Type 0 where

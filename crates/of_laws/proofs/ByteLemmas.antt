@@ -15,7 +15,7 @@ use Rattle.of_actions.specs.{Supported.is_allowed, Supported.is_supported, Suppo
 use Rattle.of_actions.specs.CanonicalActions.{canonical_action, canonical_argument, canonical_actions, canonical_set_field}
 use Rattle.of_actions.specs.CanonicalInstructions.{after_type, canonical_instruction, canonical_instructions}
 use Rattle.of_groups.specs.{declared.bucket.Bucket.Bucket, declared.group.GroupKind.GroupKind}
-use Rattle.of_groups.specs.declared.group.GroupKind.TheVariants.{All, Indirect, FastFailover}
+use Rattle.of_groups.specs.declared.group.GroupKind.TheVariants.{All}
 use Rattle.of_groups.specs.{Buckets.are_fit, Buckets.is_fit, Groups.kind_number}
 use Rattle.of_text.proofs.TextLemmas.{all_both}
 use Rattle.of_messages.specs.Written.{command_number, flow_mod_bytes, flow_mod_fixed_part, flow_mod_numbers, message}
@@ -173,8 +173,7 @@ flow_mod_are_bytes xid m table kept =
 
 kind_byte : (kind : GroupKind) → kind_number kind < 256
 kind_byte All = omega arith
-kind_byte Indirect = omega arith
-kind_byte FastFailover = omega arith
+kind_byte other = omega arith
 
 group_front_bytes : (g : NewGroup) → Bytes (group_add_fixed_part g)
 unfolding group_add_fixed_part

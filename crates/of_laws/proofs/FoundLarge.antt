@@ -10,7 +10,7 @@ use Rattle.of_headers.specs.Faults.{frame_fault}
 use Rattle.of_oxm.specs.{declared.match_field.MatchField.MatchField, MatchReading.match_of}
 use Rattle.of_actions.specs.{declared.instruction.Instruction.Instruction, Actions.actions_said, FlowCheck.all_go_with, PortNumbers.is_number}
 use Rattle.of_groups.specs.declared.group.GroupKind.{GroupKind}
-use Rattle.of_groups.specs.{declared.group.GroupKind.TheVariants.All, declared.group.GroupKind.TheVariants.Indirect, declared.group.GroupKind.TheVariants.FastFailover, Groups.kind_number}
+use Rattle.of_groups.specs.{declared.group.GroupKind.TheVariants.All, Groups.kind_number}
 use Rattle.of_messages.specs.GroupMods.{command_of_group_mod as group_command_of, is_above, group_kind_of, group_of, delete_of, group_mod_of}
 use Rattle.of_messages.specs.Messages.{command_of, command_said, is_bad_table, instructions_for, flow_mod_of, is_ingress, packet_in_data, packet_out_of}
 use Rattle.of_messages.specs.{declared.group_mod.GroupMod.GroupMod, declared.group_mod.NewGroup.NewGroup, declared.message.FlowMod.FlowMod, declared.message.FlowModCommand.FlowModCommand}
@@ -106,14 +106,12 @@ any_table t h = by_low (ltb 15 t) refl h
     by_low false is e = inl (omega (arith, ltb-false 15 t is))
 
 table_found : (c : FlowModCommand) (t : ℕ) → is_bad_table t c ≡ false → MayName (deletes c) t
-table_found Add t h = low_table t (eqb t 255) h
-table_found (Modify strict) t h = low_table t (eqb t 255) h
 table_found (Delete strict) t h = any_table t h
+table_found other t h = low_table t (eqb t 255) h
 
 instructions_for_found : (f : FlowMod) (c : FlowModCommand) (bytes : List ℕ) → instructions_for c f.table bytes ≡ Ok f.instructions → HasInstructions f (deletes c) bytes
-instructions_for_found f Add bytes h = instructions_found f.table bytes f.instructions h
-instructions_for_found f (Modify strict) bytes h = instructions_found f.table bytes f.instructions h
 instructions_for_found f (Delete strict) bytes h = sym (same_ok h)
+instructions_for_found f other bytes h = instructions_found f.table bytes f.instructions h
 
 pub record FlowModSays (f : FlowMod) (m : List ℕ) : Type 0 where
   pub says : Says 8 (flow_mod_cells f) m
@@ -180,8 +178,7 @@ flow_mod_found f m fits h =
 kind_known : (n : ℕ) (k : GroupKind) → group_kind_of n ≡ Some k → n ≡ kind_number k
 unfolding group_kind_of
 kind_known n All h = grind (arith, nat_tests)
-kind_known n Indirect h = grind (arith, nat_tests)
-kind_known n FastFailover h = grind (arith, nat_tests)
+kind_known n other h = grind (arith, nat_tests)
 
 record GroupSays (g : NewGroup) (type id : ℕ) (rest : List ℕ) : Type 0 where
   kind : type ≡ kind_number g.kind

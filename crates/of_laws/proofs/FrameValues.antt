@@ -1,6 +1,6 @@
 -- The value of a field of well-formed layers has no bit beyond those of the field.
 use Rattle.std.proofs.Common.{◌≡◌, ℕ, ◌-◌, ◌^◌, ◌<◌, ◌≤◌, true, List, [], ◌∷◌, length, Option, Some, None, refl, sym, subst, arith}
-use Rattle.of_layers.specs.declared.transport.Transport.TheVariants.{Nothing, Tcp, Udp, Icmpv4, Icmpv6}
+use Rattle.of_layers.specs.declared.transport.Transport.TheVariants.{Nothing}
 use Rattle.of_layers.specs.Layers.{Item, plain, named, Extension, Layers, next_before, addresses, outer_tag, ether_type, arp, ipv4, ipv6, options, fragment, items_of, cells}
 use Rattle.of_layers.specs.declared.field.Field.{Field}
 use Rattle.of_layers.specs.declared.field.Field.TheVariants.{InPort, Metadata, VlanVid, IpProto}
@@ -27,10 +27,7 @@ next_right f is a b (e ∷ es) = b
 transport_right : (f : Field) (t : Transport) → IsRight (items_of t) f
 unfolding row_of
 transport_right f Nothing = refl
-transport_right f Tcp = elim f as (IsRight (items_of Tcp)) [ InPort ↦ refl | _ ↦ refl ]
-transport_right f Udp = elim f as (IsRight (items_of Udp)) [ InPort ↦ refl | _ ↦ refl ]
-transport_right f Icmpv4 = elim f as (IsRight (items_of Icmpv4)) [ InPort ↦ refl | _ ↦ refl ]
-transport_right f Icmpv6 = elim f as (IsRight (items_of Icmpv6)) [ InPort ↦ refl | _ ↦ refl ]
+transport_right f other = elim f as (IsRight (items_of other)) [ InPort ↦ refl | _ ↦ refl ]
 
 as_wide : (f : Field) → IsAsWide (number_of f) (width_of f)
 unfolding row_of

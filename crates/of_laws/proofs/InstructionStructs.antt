@@ -183,10 +183,7 @@ one table seen clear i rest fits none at body =
 -- the type of an instruction is that of its header
 type_same : (i : Instruction) → type_of_instruction i ≡ instruction_type i
 type_same (Goto table) = refl
-type_same (Metadata value mask) = refl
-type_same (Write actions) = refl
-type_same (Apply actions) = refl
-type_same Clear = refl
+type_same other = refl
 
 used_same : (n : ℕ) (is : List Instruction) → is_used instruction_type n is ≡ is_used type_of_instruction n is
 used_same n [] = refl

@@ -128,8 +128,7 @@ kind_at n = if n == 0 then All else if n == 2 then Indirect else FastFailover
 
 kind_again : (k : GroupKind) → kind_at (kind_number k) ≡ k
 kind_again All = refl
-kind_again Indirect = refl
-kind_again FastFailover = refl
+kind_again other = refl
 
 abbrev described_at : List ℕ → List Bucket → NewGroup
 described_at m buckets = record { id = big_number 4 (drop 4 m); kind = kind_at (slice_index m 2); buckets = buckets }

@@ -76,24 +76,19 @@ told_at n m =
 
 packet_reason_again : (r : PacketInReason) → packet_reason_at (packet_in_number r) ≡ r
 packet_reason_again NoMatch = refl
-packet_reason_again Action = refl
-packet_reason_again InvalidTtl = refl
+packet_reason_again other = refl
 
 removed_reason_again : (r : FlowRemovedReason) → removed_reason_at (flow_removed_number r) ≡ r
 removed_reason_again removed.IdleTimeout = refl
-removed_reason_again removed.HardTimeout = refl
-removed_reason_again removed.Delete = refl
-removed_reason_again removed.GroupDelete = refl
+removed_reason_again other = refl
 
 port_reason_again : (r : PortStatusReason) → port_reason_at (port_reason r) ≡ r
 port_reason_again status.Add = refl
-port_reason_again status.Delete = refl
-port_reason_again status.Modify = refl
+port_reason_again other = refl
 
 role_again : (r : Role) → role_at (role_value r) ≡ r
 role_again role.Equal = refl
-role_again role.Master = refl
-role_again role.Slave = refl
+role_again other = refl
 
 same_code : (c : Code) (a b : ℕ) → a ≡ c.kind → b ≡ c.code → record { kind = a; code = b } ≡ c
 same_code c a b p q = rw (p, q) refl

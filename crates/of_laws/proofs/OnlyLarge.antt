@@ -8,7 +8,7 @@ use Rattle.of_headers.specs.Faults.{frame_fault}
 use Rattle.of_oxm.specs.MatchReading.{match_of}
 use Rattle.of_actions.{specs.Actions.actions_said, proofs.ActionsComputed.actions_are, proofs.Computed.is_computed}
 use Rattle.of_groups.specs.declared.group.GroupKind.{GroupKind}
-use Rattle.of_groups.specs.{declared.group.GroupKind.TheVariants.All, declared.group.GroupKind.TheVariants.Indirect, declared.group.GroupKind.TheVariants.FastFailover, Groups.kind_number}
+use Rattle.of_groups.specs.{declared.group.GroupKind.TheVariants.All, Groups.kind_number}
 use Rattle.of_messages.specs.GroupMods.{command_of_group_mod as group_command_of, is_above, group_kind_of, group_of, delete_of, group_mod_of}
 use Rattle.of_messages.specs.Messages.{command_of, command_said, is_bad_table, instructions_for, flow_mod_by, flow_mod_of, is_ingress, packet_in_data, packet_out_by, packet_out_of}
 use Rattle.of_messages.specs.{declared.group_mod.GroupMod.GroupMod, declared.group_mod.NewGroup.NewGroup, declared.message.FlowMod.FlowMod, declared.message.FlowModCommand.FlowModCommand}
@@ -98,9 +98,8 @@ deleted t (inl lt) = let low = adds t lt in rw low refl
 deleted t (inr is) = rw is refl
 
 table_fine : (c : FlowModCommand) (t : ℕ) → MayName (deletes c) t → is_bad_table t c ≡ false
-table_fine Add t h = let low = adds t h in rw low refl
-table_fine (Modify strict) t h = let low = adds t h in rw low refl
 table_fine (Delete strict) t h = deleted t h
+table_fine other t h = let low = adds t h in rw low refl
 
 command_read : (c : FlowModCommand) (table flags : ℕ) → MayName (deletes c) table → flags < 32 → command_said (command_number c) table flags ≡ Ok c
 unfolding command_said
@@ -111,9 +110,8 @@ command_read c table flags may lt =
     rw (command, fine, low) refl
 
 instructions_only : (f : FlowMod) (c : FlowModCommand) (bytes : List ℕ) → HasInstructions f (deletes c) bytes → instructions_for c f.table bytes ≡ Ok f.instructions
-instructions_only f Add bytes h = is_computed f.table bytes (Ok f.instructions) h tt
-instructions_only f (Modify strict) bytes h = is_computed f.table bytes (Ok f.instructions) h tt
 instructions_only f (Delete strict) bytes h = ap Ok (sym h)
+instructions_only f other bytes h = is_computed f.table bytes (Ok f.instructions) h tt
 
 numbers_are : (f : FlowMod) (m : List ℕ) → Says 8 (flow_mod_cells f) m → numbers tables.flow_mod 8 m ≡ flow_mod_numbers f
 numbers_are f m s =
@@ -138,8 +136,7 @@ flow_mod_only f m tail there s h valid =
 pub kind_again : (k : GroupKind) → group_kind_of (kind_number k) ≡ Some k
 unfolding group_kind_of
 kind_again All = refl
-kind_again Indirect = refl
-kind_again FastFailover = refl
+kind_again other = refl
 
 below : (number : ℕ) → number ≤ 0xffffff00 → is_above number ≡ false
 below number most = le-ltb _ _ most
@@ -194,8 +191,7 @@ delete_only (Some number) valid =
 
 pub group_size : (g : GroupMod) → size (group_mod_cells g) ≡ 8
 group_size (group.Add g) = refl
-group_size (group.Modify g) = refl
-group_size (group.Delete which) = refl
+group_size other = refl
 
 pub group_mod_only : (g : GroupMod) (m tail : List ℕ) → tail ≡ drop 16 m → Says 8 (group_mod_cells g) m → GroupTail g tail → IsValidGroupMod g → group_mod_of m ≡ Ok g
 group_mod_only (group.Add g) m tail there s h valid =

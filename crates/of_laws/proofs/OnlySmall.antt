@@ -70,9 +70,7 @@ role_only (Slave generation) m h = asks m 3 (Slave generation) h.0 (asked_3 _ �
 
 pub role_size : (r : RoleRequest) → size (role_cells r) ≡ 16
 role_size NoChange = refl
-role_size Equal = refl
-role_size (Master generation) = refl
-role_size (Slave generation) = refl
+role_size other = refl
 
 -- ---- SET_ASYNC
 

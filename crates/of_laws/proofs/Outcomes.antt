@@ -9,7 +9,7 @@ use Rattle.of_datapath.specs.{Buffers.Held, Buffers.given_since, Buffers.is_id, 
 use Rattle.of_datapath.specs.declared.effect.Effect.TheVariants.{Answer}
 use Rattle.of_messages.specs.Messages.{message_body, flow_mod_of, is_delete, message_by, message_from}
 use Rattle.of_messages.specs.declared.group_mod.GroupMod.{GroupMod}
-use Rattle.of_messages.specs.declared.group_mod.GroupMod.TheVariants.{Add, Modify, Delete}
+use Rattle.of_messages.specs.declared.group_mod.GroupMod.TheVariants.{Delete}
 use Rattle.of_messages.specs.{declared.message.FlowMod.FlowMod, declared.message.Message.Message}
 use Rattle.of_messages.specs.{declared.message.Message.TheVariants.FlowMod as IsFlowMod, declared.message.Message.TheVariants.GroupMod as IsGroupMod, declared.role.Role.Role}
 use Rattle.of_messages.specs.{Heads.head_refusals, Heads.role_refusals, Heads.type_of, Heads.xid_of, GroupMods.group_mod_of, Written.error_bytes, Written.message}
@@ -75,9 +75,8 @@ flow_mod_says m k none =
     subst SaysNoError (sym is) (record { none = quiet; held_none = none })
 
 group_mod_says : (m : GroupMod) (k : Core) → k.forwarding.held ≡ none_held → SaysNoError (after_group_mod m k)
-group_mod_says (Add g) k none = record { none = refl; held_none = none }
-group_mod_says (Modify g) k none = record { none = refl; held_none = none }
 group_mod_says (Delete which) k none = record { none = silent (heard_of k.control) k.forwarding.tables.latest (notices_in (Group which) k.forwarding.tables); held_none = none }
+group_mod_says other k none = record { none = refl; held_none = none }
 
 -- ---- a command that is read is a FLOW_MOD or a GROUP_MOD
 

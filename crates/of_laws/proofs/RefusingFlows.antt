@@ -165,10 +165,7 @@ next_same table seen (Goto to ∷ is) = ap (λ (rs : List (Bool × Code)). (not 
 text_same : (s : Instruction) → text_of (header_of s) ≡ canonical_instruction s
 unfolding text_of canonical_instruction
 text_same (Apply actions) = refl
-text_same Clear = refl
-text_same (Write actions) = refl
-text_same (Metadata value mask) = refl
-text_same (Goto table) = refl
+text_same other = refl
 
 texts_same : (is : List Instruction) → flat_map text_of (map header_of is) ≡ canonical_instructions is
 texts_same [] = refl
@@ -187,14 +184,12 @@ body_told (Apply actions) fits = ap (with_actions_read Apply) (actions_told acti
     by_first : (o : Option Code) → with_actions_read Apply (outcome actions o) ≡ one_outcome (Apply actions) o
     by_first None = refl
     by_first (Some code) = refl
-body_told Clear fits = refl
 body_told (Write actions) fits = ap (with_actions_read Write) (actions_told actions fits) ∙ by_first (first_of (list_refusals actions))
   where
     by_first : (o : Option Code) → with_actions_read Write (outcome actions o) ≡ one_outcome (Write actions) o
     by_first None = refl
     by_first (Some code) = refl
-body_told (Metadata value mask) fits = refl
-body_told (Goto table) fits = refl
+body_told other fits = refl
 
 bodies_told : (is : List Instruction) → AllByRecursion InstructionFits is → bodies_of (map header_of is) ≡ outcome is (first_of (flat_map instruction_refusals is))
 bodies_told [] fits = refl
@@ -214,10 +209,7 @@ bodies_told (s ∷ is) fits =
 
 kind_same : (s : Instruction) → kind_of (header_of s) ≡ type_of_instruction s
 kind_same (Apply actions) = refl
-kind_same Clear = refl
-kind_same (Write actions) = refl
-kind_same (Metadata value mask) = refl
-kind_same (Goto table) = refl
+kind_same other = refl
 
 used_same : (n : ℕ) (is : List Instruction) → is_used kind_of n (map header_of is) ≡ is_used type_of_instruction n is
 used_same n [] = refl

@@ -2,7 +2,7 @@
 use Rattle.std.proofs.Common.{◌≡◌, ℕ, Bool, true, false, cond, List, [], ◌∷◌, ◌++◌, Option, Some, None, Ok, Err, refl, sym, ap, ◌∙◌}
 use Rattle.std.specs.Prelude.{◌&&◌}
 use Rattle.of_wire.{specs.declared.code.Code.Code, specs.Refusals.refusal, specs.Refusals.first_of, proofs.Numbers.IsBytes}
-use Rattle.of_messages.specs.declared.message.Message.TheVariants.{Hello, Error, EchoRequest, EchoReply, FeaturesRequest, GetConfigRequest, SetConfig, PacketOut as IsPacketOut, FlowMod as IsFlowMod, GroupMod as IsGroupMod, PortMod as IsPortMod, TableMod as IsTableMod, Multipart, BarrierRequest, RoleRequest as IsRoleRequest, GetAsyncRequest, SetAsync}
+use Rattle.of_messages.specs.declared.message.Message.TheVariants.{Hello}
 use Rattle.of_messages.specs.Heads.{type_of, is_slave, is_change, head_refusals, role_refusals, xid_of}
 use Rattle.of_messages.specs.{declared.message.Message.Message, declared.role.Role.Role, Messages.message_body, Messages.message_by, Messages.message_from, Messages.message_of}
 use Rattle.of_messages.specs.declared.role.Role.TheVariants as role
@@ -32,22 +32,7 @@ first_part (r ∷ rs) qs none = by_test r.0 none (first_part rs qs)
 change_same : (v : Message) → is_change (type v) ≡ changes_switch v
 unfolding message_row
 change_same Hello = refl
-change_same Error = refl
-change_same (EchoRequest echoed) = refl
-change_same EchoReply = refl
-change_same FeaturesRequest = refl
-change_same GetConfigRequest = refl
-change_same (SetConfig config) = refl
-change_same (IsPacketOut m) = refl
-change_same (IsFlowMod m) = refl
-change_same (IsGroupMod m) = refl
-change_same (IsPortMod m) = refl
-change_same (IsTableMod m) = refl
-change_same (Multipart request) = refl
-change_same BarrierRequest = refl
-change_same (IsRoleRequest request) = refl
-change_same GetAsyncRequest = refl
-change_same (SetAsync masks) = refl
+change_same other = refl
 
 change_of : (xid : ℕ) (v : Message) (m : List ℕ) → Encodes xid v m → is_change (type_of m) ≡ changes_switch v
 change_of xid v m s = ap is_change (of_controller xid v m s).kind_is ∙ change_same v
@@ -71,9 +56,8 @@ body_same : (m : List ℕ) (v : Message) → message_of m ≡ Ok v → message_b
 body_same m v h = sym (by_role role.Equal m (head_none m v h)) ∙ h
 
 allowed : (r : Role) (v : Message) → MaySend r v → (is_slave r && changes_switch v) ≡ false
-allowed role.Equal v may = refl
-allowed role.Master v may = refl
 allowed role.Slave v may = may
+allowed other v may = refl
 
 pub only_as : (r : Role) (xid : ℕ) (v : Message) (m : List ℕ) → Encodes xid v m → MaySend r v → message_from r m ≡ Ok v
 only_as r xid v m s may =
@@ -91,9 +75,8 @@ pub record Sent (r : Role) (v : Message) (m : List ℕ) : Type 0 where
   pub may : MaySend r v
 
 may_send : (r : Role) (v : Message) → (is_slave r && changes_switch v) ≡ false → MaySend r v
-may_send role.Equal v h = tt
-may_send role.Master v h = tt
 may_send role.Slave v h = h
+may_send other v h = tt
 
 pub found_as : (r : Role) (m : List ℕ) (v : Message) → IsBytes m → message_from r m ≡ Ok v → Sent r v m
 unfolding message_from

@@ -6,7 +6,7 @@ use Rattle.of_wire.specs.declared.limits.TheConstants.{OFPG_ALL, OFPG_MAX, OFPP_
 use Rattle.of_groups.specs.declared.bucket.Bucket.{Bucket}
 use Rattle.of_messages.specs.declared.message.Message.TheVariants.{EchoRequest, PacketOut as IsPacketOut, FlowMod as IsFlowMod, GroupMod as IsGroupMod, PortMod as IsPortMod, TableMod as IsTableMod, Multipart}
 use Rattle.of_messages.specs.{Messages.is_delete, declared.group_mod.GroupMod.GroupMod, declared.message.FlowMod.FlowMod, declared.message.FlowModCommand.FlowModCommand}
-use Rattle.of_messages.specs.declared.message.FlowModCommand.TheVariants.{Add, Modify as Modifies, Delete as Deletes}
+use Rattle.of_messages.specs.declared.message.FlowModCommand.TheVariants.{Add, Delete as Deletes}
 use Rattle.of_messages.specs.{declared.message.Message.Message, declared.message.PacketData.PacketData}
 use Rattle.of_messages.specs.{declared.message.PacketData.TheVariants.Buffered, declared.message.PacketData.TheVariants.Frame, declared.multipart.MultipartRequest.MultipartRequest}
 use Rattle.of_messages.specs.declared.multipart.MultipartRequest.TheVariants.{Flow, Aggregate, PortStats, Group}
@@ -38,9 +38,8 @@ data_sound (Frame frame) h = ap is_none (no_fault frame h.0 h.1)
 -- ---- FLOW_MOD
 
 command_sound : (m : FlowMod) (c : FlowModCommand) (bytes : List ℕ) → MayName (deletes c) m.table → HasInstructions m (deletes c) bytes → is_sound_command (is_delete c) m ≡ true
-command_sound m Add bytes table h = and_true _ _ (low m.table table) (encoded_for m.table bytes m.instructions h)
-command_sound m (Modifies strict) bytes table h = and_true _ _ (low m.table table) (encoded_for m.table bytes m.instructions h)
 command_sound m (Deletes strict) bytes table h = and_true _ _ (table_named m.table table) (ap has_no_instructions h)
+command_sound m other bytes table h = and_true _ _ (low m.table table) (encoded_for m.table bytes m.instructions h)
 
 flow_mod_sound : (m : FlowMod) (tail : List ℕ) → MatchThenInstructions m tail → IsValidFlowMod m → is_sound (IsFlowMod m) ≡ true
 flow_mod_sound m tail h valid = and_true _ _ (and_true _ _ (command_sound m m.command h.instructions valid.table h.are) (lt-ltb _ _ valid.flags)) valid.fit

@@ -1,7 +1,7 @@
 -- What is written of a message encodes it.
 use Rattle.std.proofs.Common.{◌≡◌, ℕ, ◌+◌, ◌^◌, ◌<◌, ◌≤◌, List, [], ◌∷◌, ◌++◌, length, Result, Ok, Err, refl, sym, ap, subst, ◌∙◌, arith}
 use Rattle.std.{specs.Prelude.IfOk, specs.Prelude.OnOk, specs.declared.alloc.AllocError.AllocError, proofs.lemmas.List.append_assoc, proofs.lemmas.List.append-nil, proofs.lemmas.List.length-append}
-use Rattle.of_messages.specs.declared.message.Message.TheVariants.{Hello, Error, EchoRequest, EchoReply, FeaturesRequest, GetConfigRequest, SetConfig, PacketOut as IsPacketOut, FlowMod as IsFlowMod, GroupMod as IsGroupMod, PortMod as IsPortMod, TableMod as IsTableMod, Multipart, BarrierRequest, RoleRequest as IsRoleRequest, GetAsyncRequest, SetAsync}
+use Rattle.of_messages.specs.declared.message.Message.TheVariants.{Hello}
 use Rattle.of_messages.{specs.Written.IsMessage, specs.Written.message_header, specs.Written.message, specs.declared.message.Message.Message, proofs.Lengths.is_message}
 use Rattle.of_laws.specs.Cells.{StructCell, byte, u16_cell, u32_cell, Begins, FitsCells, canonical_cells}
 use Rattle.of_laws.specs.Grammar.{type, version, message_cells, Tail, IsValid, Encodes}
@@ -9,22 +9,7 @@ use Rattle.of_laws.{specs.Canonical.canonical_message, specs.Canonical.canonical
 
 type_fits : (m : Message) → type m < 256
 type_fits Hello = omega arith
-type_fits Error = omega arith
-type_fits (EchoRequest echoed) = omega arith
-type_fits EchoReply = omega arith
-type_fits FeaturesRequest = omega arith
-type_fits GetConfigRequest = omega arith
-type_fits (SetConfig config) = omega arith
-type_fits (IsPacketOut m) = omega arith
-type_fits (IsFlowMod m) = omega arith
-type_fits (IsGroupMod m) = omega arith
-type_fits (IsPortMod m) = omega arith
-type_fits (IsTableMod m) = omega arith
-type_fits (Multipart request) = omega arith
-type_fits BarrierRequest = omega arith
-type_fits (IsRoleRequest request) = omega arith
-type_fits GetAsyncRequest = omega arith
-type_fits (SetAsync masks) = omega arith
+type_fits other = omega arith
 
 -- each message may have version 4
 any_version : (m : Message) (cs : List StructCell) (bytes rest : List ℕ) → Begins (byte 4 ∷ cs) bytes rest → Begins (version m ∷ cs) bytes rest

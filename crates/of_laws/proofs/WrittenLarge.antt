@@ -10,7 +10,7 @@ use Rattle.of_actions.specs.declared.instruction.Instruction.{Instruction}
 use Rattle.of_groups.specs.{Buckets.are_fit, Buckets.fresh, Buckets.is_fit, declared.bucket.Bucket.Bucket}
 use Rattle.of_messages.specs.{CanonicalGroups.canonical_buckets, CanonicalGroups.has_numbers, Messages.is_delete, Written.message_header, Written.message, Written.flow_mod_bytes}
 use Rattle.of_messages.specs.{declared.group_mod.NewGroup.NewGroup, declared.message.FlowMod.FlowMod, declared.message.FlowModCommand.FlowModCommand}
-use Rattle.of_messages.specs.declared.message.FlowModCommand.TheVariants.{Add, Modify as Modifies, Delete as Deletes}
+use Rattle.of_messages.specs.declared.message.FlowModCommand.TheVariants.{Add}
 use Rattle.of_messages.specs.declared.message.Message.TheVariants.{PacketOut as IsPacketOut, FlowMod as IsFlowMod, GroupMod as IsGroupMod, Multipart}
 use Rattle.of_messages.specs.{declared.message.PacketData.PacketData, declared.message.PacketData.TheVariants.Buffered, declared.message.PacketData.TheVariants.Frame}
 use Rattle.of_messages.specs.{declared.message.PacketOut.PacketOut, declared.multipart.FlowStatsRequest.FlowStatsRequest}
@@ -79,8 +79,7 @@ packet_out_text m front s t u v w bytes actions frame buffer len eb el ea ef p q
 
 delete_same : (c : FlowModCommand) → is_delete c ≡ deletes c
 delete_same Add = refl
-delete_same (Modifies strict) = refl
-delete_same (Deletes strict) = refl
+delete_same other = refl
 
 none_left : (is : List Instruction) → has_no_instructions is ≡ true → is ≡ []
 none_left [] h = refl

@@ -5,12 +5,12 @@ use Rattle.of_oxm.{specs.Canonical.canonical, specs.NormalForm.IsMatch, proofs.W
 use Rattle.of_actions.specs.{CanonicalActions.canonical_actions, CanonicalInstructions.canonical_instructions, InstructionLists.are_for, InstructionLists.are_kept, Supported.are_supported}
 use Rattle.of_actions.proofs.{ActionsAgain.canonical_encoded, ActionsAgain.canonical_short as actions_short, InstructionLengths.instructions_short, InstructionsAgain.instructions_encoded}
 use Rattle.of_groups.specs.{Buckets.are_fit, Buckets.fresh, Buckets.is_fit, declared.bucket.Bucket.Bucket, declared.group.GroupKind.GroupKind}
-use Rattle.of_groups.specs.declared.group.GroupKind.TheVariants.{All, Indirect, FastFailover}
+use Rattle.of_groups.specs.declared.group.GroupKind.TheVariants.{All}
 use Rattle.of_groups.specs.Groups.{kind_number as number_of, kind_number}
 use Rattle.of_messages.specs.CanonicalGroups.{as_written, canonical_bucket, canonical_buckets, group_add_bytes, group_add_fixed_part, has_numbers}
 use Rattle.of_messages.specs.{Written.command_number as number_of_command, Written.flow_mod_bytes, Written.flow_mod_fixed_part, Written.command_number, declared.group_mod.NewGroup.NewGroup}
 use Rattle.of_messages.specs.{declared.message.FlowMod.FlowMod, declared.message.FlowModCommand.FlowModCommand}
-use Rattle.of_messages.specs.declared.message.FlowModCommand.TheVariants.{Add, Modify, Delete}
+use Rattle.of_messages.specs.declared.message.FlowModCommand.TheVariants.{Add, Delete}
 use Rattle.of_messages.{specs.declared.message.Message.TheVariants.FlowMod as IsFlowMod, specs.declared.message.Message.TheVariants.GroupMod as IsGroupMod, proofs.BucketsWritten.buckets_short}
 use Rattle.of_messages.specs.declared.group_mod.GroupMod.TheVariants as group
 use Rattle.of_laws.specs.Grammar.{HasInstructions, IsValidFlowMod, MatchThenInstructions, Encodes, deletes, flow_mod_cells, group_cells}
@@ -20,8 +20,7 @@ use Rattle.of_laws.{specs.Buckets.AreBuckets, specs.Buckets.bucket_cells, specs.
 
 pub command_same : (c : FlowModCommand) → number_of_command c ≡ command_number c
 command_same Add = refl
-command_same (Modify strict) = refl
-command_same (Delete strict) = refl
+command_same other = refl
 
 pub beginning_is : (m : FlowMod) (tail : List ℕ) → flow_mod_fixed_part m ++ tail ≡ encoding (flow_mod_cells m) ++ tail
 unfolding flow_mod_fixed_part
@@ -33,9 +32,8 @@ length-front m tail = omega arith
 
 -- the two DELETE commands have none
 has_instructions : (m : FlowMod) (c : FlowModCommand) → are_kept m.instructions ≡ true → are_for m.table m.instructions ≡ true → (deletes c ≡ true → m.instructions ≡ []) → HasInstructions m (deletes c) (canonical_instructions m.instructions)
-has_instructions m Add kept fit none = instructions_encoded m.table m.instructions kept fit
-has_instructions m (Modify strict) kept fit none = instructions_encoded m.table m.instructions kept fit
 has_instructions m (Delete strict) kept fit none = none refl
+has_instructions m other kept fit none = instructions_encoded m.table m.instructions kept fit
 
 pub tail_is : (m : FlowMod) → IsMatch m.fields → are_kept m.instructions ≡ true → are_for m.table m.instructions ≡ true → (deletes m.command ≡ true → m.instructions ≡ []) → MatchThenInstructions m (canonical m.fields ++ canonical_instructions m.instructions)
 tail_is m match kept fit none =
@@ -103,8 +101,7 @@ buckets_encoded (b ∷ bs) numbers fit =
 
 pub kind_same : (k : GroupKind) → number_of k ≡ kind_number k
 kind_same All = refl
-kind_same Indirect = refl
-kind_same FastFailover = refl
+kind_same other = refl
 
 group_fixed_part : (g : NewGroup) (tail : List ℕ) → group_add_fixed_part g ++ tail ≡ encoding (group_cells 0 (as_written g)) ++ tail
 unfolding group_add_fixed_part
@@ -116,8 +113,7 @@ length-group g tail = omega arith
 
 pub kind_fits : (k : GroupKind) → kind_number k < 256
 kind_fits All = omega arith
-kind_fits Indirect = omega arith
-kind_fits FastFailover = omega arith
+kind_fits other = omega arith
 
 pub group_add_encoded : (xid : ℕ) (g : NewGroup) → xid < 256 ^ 4 → g.id ≤ 0xffffff00 → list_all has_numbers g.buckets ≡ true → are_fit g.buckets ≡ true → Encodes xid (IsGroupMod (group.Add (as_written g))) (group_add_bytes xid g)
 group_add_encoded xid g x most numbers fit =

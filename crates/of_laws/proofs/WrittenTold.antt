@@ -54,13 +54,11 @@ barrier_told xid x = told barrier_reply xid [] [] refl x tt (omega arith) refl
 
 role_same : (r : Role) → role_number r ≡ role_value r
 role_same role.Equal = refl
-role_same role.Master = refl
-role_same role.Slave = refl
+role_same other = refl
 
 role_fits : (r : Role) → role_value r < 256 ^ 4
 role_fits role.Equal = omega arith
-role_fits role.Master = omega arith
-role_fits role.Slave = omega arith
+role_fits other = omega arith
 
 role_text : (r : Role) (generation : ℕ) → big_bytes 4 (role_number r) ++ (replicate 4 0 ++ big_bytes 8 generation) ≡ encoding (told_cells (role_reply r generation)) ++ []
 role_text r generation = rw (role_same r) refl
@@ -90,8 +88,7 @@ removed_told xid r fields x fits match =
 
 status_same : (r : PortStatusReason) → status_number r ≡ port_reason r
 status_same status.Add = refl
-status_same status.Delete = refl
-status_same status.Modify = refl
+status_same other = refl
 
 -- what follows the number of a port
 behind_number : (hw name bits : List ℕ) → (hw ++ (replicate 2 0 ++ name)) ++ bits ≡ hw ++ (replicate 2 0 ++ (name ++ bits))

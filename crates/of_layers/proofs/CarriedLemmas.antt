@@ -1,7 +1,7 @@
 -- What an IP packet carries: encoded by its numbers and the bytes after them, by no others, and well formed.
 use Rattle.std.proofs.Common.{◌≡◌, ℕ, ◌*◌, ◌≤◌, Bool, true, false, cond, List, ◌++◌, length, get_or, drop, refl, sym, ap, ◌∙◌, arith, append_assoc}
 use Rattle.std.{specs.Prelude.nat_le, proofs.lemmas.Bool.leb-true, proofs.lemmas.List.length-append, proofs.lemmas.List.length-drop}
-use Rattle.of_layers.specs.declared.transport.Transport.TheVariants.{Nothing, Tcp, Udp, Icmpv4, Icmpv6}
+use Rattle.of_layers.specs.declared.transport.Transport.TheVariants.{Nothing, Tcp, Udp}
 use Rattle.of_layers.specs.Layers.{Carried, items_of, size_of, cells_in, byte_cells, carried_cells, encoded}
 use Rattle.of_layers.specs.Reading.{word, double, whole_in, numbers_of, carried_as, carried_of}
 use Rattle.of_layers.proofs.EncodingLemmas.{AreBytes-drop, then_bits, byte_from, word_from, double_from, word_small, double_small, encoded-append, encoded_bytes}
@@ -27,11 +27,7 @@ numbers_encoded Udp s b h = simp append_assoc
     (then_bits (bits 16 (word s 2)) (word_from s 2 b (omega arith))
     (then_bits (bits 16 (word s 4)) (word_from s 4 b (omega arith))
     (word_from s 6 b (omega arith)))))
-numbers_encoded Icmpv4 s b h = simp append_assoc
-    (then_bits (bits 8 (get_or s 0 0)) (byte_from s 0 (omega arith))
-    (then_bits (bits 8 (get_or s 1 0)) (byte_from s 1 (omega arith))
-    (word_from s 2 b (omega arith))))
-numbers_encoded Icmpv6 s b h = simp append_assoc
+numbers_encoded other s b h = simp append_assoc
     (then_bits (bits 8 (get_or s 0 0)) (byte_from s 0 (omega arith))
     (then_bits (bits 8 (get_or s 1 0)) (byte_from s 1 (omega arith))
     (word_from s 2 b (omega arith))))
@@ -41,15 +37,11 @@ unfolding numbers_of
 numbers_fit Nothing s b = tt
 numbers_fit Tcp s b = (word_small s 0 b, (word_small s 2 b, (double_small s 4 b, (double_small s 8 b, (word_small s 12 b, (word_small s 14 b, (word_small s 16 b, (word_small s 18 b, tt))))))))
 numbers_fit Udp s b = (word_small s 0 b, (word_small s 2 b, (word_small s 4 b, (word_small s 6 b, tt))))
-numbers_fit Icmpv4 s b = (b 0, (b 1, (word_small s 2 b, tt)))
-numbers_fit Icmpv6 s b = (b 0, (b 1, (word_small s 2 b, tt)))
+numbers_fit other s b = (b 0, (b 1, (word_small s 2 b, tt)))
 
 total_is : (kind : Transport) → total (items_of kind) ≡ 8 * size_of kind
 total_is Nothing = refl
-total_is Tcp = refl
-total_is Udp = refl
-total_is Icmpv4 = refl
-total_is Icmpv6 = refl
+total_is other = refl
 
 -- ---- whole or not there
 

@@ -1,5 +1,5 @@
 -- What bytes carry is behind a header with which they begin.
-use Rattle.std.proofs.Common.{arith, refl, ◌≡◌, ◌<◌, ℕ, List, [], ◌∷◌, ◌++◌, length, drop, Option, Some, None, Bool, true, false, ◌/◌, ◌%◌, nat_lt, ap, subst, ◌+◌}
+use Rattle.std.proofs.Common.{arith, refl, ◌≡◌, ℕ, List, [], ◌∷◌, ◌++◌, length, drop, Some, None, Bool, true, false, nat_lt, subst, ◌+◌}
 use Rattle.std.{specs.Prelude.◌==◌, specs.Prelude.◌||◌, specs.Prelude.if◌then◌else◌, proofs.lemmas.Grind.common_steps}
 use Rattle.byteorder.specs.Endian.{big_number}
 use Rattle.of_live.specs.Header.{BeginsWithHeader, Encapsulated, carried, has_vni, vxlan_header}

@@ -74,9 +74,8 @@ module _ (P : List ℕ → Type 0) (p : Packet) (low : P p.frame) where
   output_each w rest a port max_len false e = rw e (emission_each w.ports port max_len)
 
   aged_each : (rest : List Work) (answer : Ttl) → Each P (dec_ttl_row p rest answer).items
-  aged_each rest Done = tt
   aged_each rest Expired = (low, tt)
-  aged_each rest Absent = tt
+  aged_each rest other = tt
 
   group_each : (w : TheWorld) (rest : List Work) (g : ℕ) (o : Option (List ℕ)) → Each P (group_action_row w p rest g o).items
   group_each w rest g None = tt

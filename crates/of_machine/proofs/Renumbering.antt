@@ -3,7 +3,7 @@ use Rattle.std.proofs.Common.{◌≡◌, ◌==◌, ℕ, suc, zero, Bool, true, f
 use Rattle.std.{specs.Prelude.◌||◌, specs.Prelude.unwrap_or, specs.Option.option_map, proofs.lemmas.List.map-append}
 use Rattle.of_wire.specs.declared.limits.TheConstants.{OFPP_ALL, OFPP_CONTROLLER, OFPP_FLOOD, OFPP_IN_PORT, OFPP_TABLE}
 use Rattle.of_layers.specs.Reading.{layers_of}
-use Rattle.of_rewrite.specs.{declared.frame.Ttl.Ttl, declared.frame.Ttl.TheVariants.Done, declared.frame.Ttl.TheVariants.Expired, declared.frame.Ttl.TheVariants.Absent}
+use Rattle.of_rewrite.specs.{declared.frame.Ttl.Ttl, declared.frame.Ttl.TheVariants.Done}
 use Rattle.of_rewrite.specs.TimeToLive.{ttl_of, dec_ttl_result}
 use Rattle.of_actions.specs.declared.instruction.Instruction.TheVariants.{Apply, Clear, Write, Metadata, Goto}
 use Rattle.of_actions.specs.declared.action.Action.{Action}
@@ -79,8 +79,7 @@ module _ (number : ℕ → ℕ → ℕ) (w v : TheWorld) (h : IsRenumbered numbe
 
   aged_is : (p : Packet) (rest : List Work) (answer : Ttl) → dec_ttl_row p rest answer ≡ renumbered_row (dec_ttl_row p rest answer)
   aged_is p rest Done = refl
-  aged_is p rest Expired = refl
-  aged_is p rest Absent = refl
+  aged_is p rest other = refl
 
   act_is : (p : Packet) (rest : List Work) (a : Action) → act_row v p rest a ≡ renumbered_row (act_row w p rest a)
   act_is p rest (Output port max_len) = output_is p rest (Output port max_len) port max_len

@@ -23,10 +23,9 @@ use Rattle.of_machine.proofs.Sets.{empty_set, written_set, run_set, set_few}
 
 abbrev pub IsInstruction : ℕ → Instruction → Type 0
 IsInstruction t (Apply l) = IsTrue (list_all (is_supported false) l) × (length l ≤ 64)
-IsInstruction t Clear = ⊤
 IsInstruction t (Write l) = IsTrue (list_all (is_supported false) l)
-IsInstruction t (Metadata value mask) = ⊤
 IsInstruction t (Goto u) = (t < u) × (u < 16)
+IsInstruction t other = ⊤
 
 abbrev pub AllInstructions : ℕ → List Instruction → Type 0
 AllInstructions t [] = ⊤
@@ -42,10 +41,9 @@ BeginsAt n (i ∷ rest) = n ≤ run_place i
 
 instruction_is : (t : ℕ) (i : Instruction) → IsTrue (is_served_body i) → IsTrue (is_for t i) → IsInstruction t i
 instruction_is t (Apply l) h k = let e = (and_true (nat_le (length l) 64) (list_all (is_supported false) l) h).0 in (list_served l h, grind (arith, nat_tests))
-instruction_is t Clear h k = tt
 instruction_is t (Write l) h k = list_served l h
-instruction_is t (Metadata value mask) h k = tt
 instruction_is t (Goto u) h k = (grind (arith, nat_tests), grind (arith, nat_tests))
+instruction_is t other h k = tt
 
 pub instructions_are : (t : ℕ) (l : List Instruction) → IsTrue (list_all is_served_body l) → IsTrue (are_for t l) → AllInstructions t l
 instructions_are t [] h k = tt
@@ -232,9 +230,8 @@ module _ (w : TheWorld) where
     lookup_lowers p t (Some k) inside set = entry_lowers p t k (w.flow t k) inside set refl
 
     aged_lowers : (p : Packet) (rest : List Work) (answer : Ttl) → weight w (dec_ttl_row p rest answer).left ≤ work_weight w p.action_set rest
-    aged_lowers p rest Done = omega arith
     aged_lowers p rest Expired = let x = positive p.action_set rest in omega arith
-    aged_lowers p rest Absent = omega arith
+    aged_lowers p rest other = omega arith
 
     output_lowers : (p : Packet) (rest : List Work) (port max_len : ℕ) (b : Bool) → (port == OFPP_TABLE) ≡ b → weight w (output_row w p rest (Output port max_len) port max_len).left + 1 ≤ output_weight port + work_weight w p.action_set rest
     output_lowers p rest port max_len true e = rw e (omega arith)

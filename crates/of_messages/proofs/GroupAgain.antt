@@ -4,7 +4,7 @@ use Rattle.std.{specs.Prelude.slice_index, specs.List.list_all, proofs.lemmas.Bo
 use Rattle.byteorder.specs.{Endian.big_number, Numbers.big_number-reads_back}
 use Rattle.of_wire.specs.Refusals.{first_of}
 use Rattle.of_groups.specs.declared.group.GroupKind.{GroupKind}
-use Rattle.of_groups.specs.{declared.group.GroupKind.TheVariants.All, declared.group.GroupKind.TheVariants.Indirect, declared.group.GroupKind.TheVariants.FastFailover, Buckets.are_fit}
+use Rattle.of_groups.specs.{declared.group.GroupKind.TheVariants.All, Buckets.are_fit}
 use Rattle.of_groups.specs.Groups.{kind_number}
 use Rattle.of_messages.specs.CanonicalGroups.{canonical_buckets, group_add_fixed_part, group_add_bytes, as_written, has_numbers}
 use Rattle.of_messages.specs.{declared.message.Message.TheVariants.GroupMod as IsGroupMod, declared.group_mod.GroupMod.TheVariants.Add, declared.group_mod.NewGroup.NewGroup}
@@ -54,8 +54,7 @@ head_passes g m h =
 kind_again : (kind : GroupKind) → group_kind_of (kind_number kind) ≡ Some kind
 unfolding group_kind_of
 kind_again All = refl
-kind_again Indirect = refl
-kind_again FastFailover = refl
+kind_again other = refl
 
 group_again : (g : NewGroup) → g.id ≤ 0xffffff00 → list_all has_numbers g.buckets ≡ true → are_fit g.buckets ≡ true → group_of (kind_number g.kind) g.id (canonical_buckets g.buckets) ≡ Ok (as_written g)
 group_again g most numbers fit =

@@ -3,7 +3,7 @@ use Rattle.std.specs.Prelude.{ℕ, ◌+◌, ◌==◌, nat_lt, Bool, List, [], �
 use Rattle.of_wire.specs.declared.limits.TheConstants.{OFPG_ALL, OFPG_MAX}
 use Rattle.of_wire.specs.declared.codes.TheConstants.{OFPBRC_BAD_LEN, OFPGMFC_BAD_COMMAND, OFPGMFC_BAD_TYPE, OFPGMFC_INVALID_GROUP}
 use Rattle.of_wire.specs.declared.code.Code.{Code}
-use Rattle.of_groups.specs.{declared.bucket.Bucket.Bucket, declared.group.GroupKind.GroupKind}
+use Rattle.of_groups.specs.declared.group.GroupKind.{GroupKind}
 use Rattle.of_groups.specs.declared.group.GroupKind.TheVariants.{All, Indirect, FastFailover}
 use Rattle.of_messages.specs.{declared.group_mod.NewGroup.NewGroup, declared.group_mod.GroupCommand.GroupCommand, declared.group_mod.GroupMod.GroupMod}
 use Rattle.of_messages.specs.{declared.group_mod.GroupMod.TheVariants.Add, declared.group_mod.GroupMod.TheVariants.Modify, declared.group_mod.GroupMod.TheVariants.Delete, Buckets.buckets_said}

@@ -1,5 +1,5 @@
 -- PORT_MOD (OpenFlow 1.3.5, 7.3.4.3): the port with its hardware address, and the bits of its configuration under a mask.
-use Rattle.std.specs.Prelude.{ℕ, ◌==◌, bit_and, List, [], ◌∷◌, drop, slice_index, Result, Ok, Err, if◌then◌else◌}
+use Rattle.std.specs.Prelude.{ℕ, ◌==◌, bit_and, List, [], ◌∷◌, Result, Ok, Err, if◌then◌else◌}
 use Rattle.of_wire.specs.{declared.codes.TheConstants.OFPBRC_BAD_LEN, declared.codes.TheConstants.OFPPMFC_BAD_CONFIG, declared.code.Code.Code}
 use Rattle.of_messages.specs.declared.port_mod.PortMod.{PortMod}
 use Rattle.of_formats.specs.Structs.{numbers, texts}

@@ -1,5 +1,5 @@
 -- NAMES OF PORTS in a table of ovs-ofctl, as their numbers.
-use Rattle.std.specs.Prelude.{ℕ, ◌-◌, ◌==◌, ◌&&◌, ◌||◌, nat_lt, Bool, true, false, List, [], ◌∷◌, ◌++◌, codes, drop, get_or, length, not, take, Result, Ok, Err, if◌then◌else◌}
+use Rattle.std.specs.Prelude.{ℕ, ◌-◌, ◌==◌, ◌&&◌, ◌||◌, nat_lt, Bool, true, false, List, [], ◌∷◌, ◌++◌, codes, drop, get_or, length, not, take, Result, Err, if◌then◌else◌}
 use Rattle.std.specs.Str.{bytes_eq, str_eq_ignore_ascii_case}
 use Rattle.of_lines.specs.Lines.{before, behind}
 use Rattle.of_ovs_words.specs.{declared.why.Why.Why, declared.why.Why.TheVariants.PortName, Ports.port_in, Words.is_gap}

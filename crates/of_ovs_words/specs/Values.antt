@@ -1,6 +1,6 @@
 -- VALUES OF FIELDS IN WORDS (ovs-fields(7)): numbers, Ethernet addresses, IPv4 addresses, ports.
 use Rattle.std.specs.Prelude.{ℕ, ◌+◌, ◌-◌, ◌*◌, ◌/◌, ◌^◌, List, Option, Some}
-use Rattle.of_lines.specs.{Lines.before, Lines.behind, Reading.◌>>=◌}
+use Rattle.of_lines.specs.{Lines.before, Lines.behind}
 use Rattle.of_ovs_words.specs.Numbers.{some_digits}
 
 -- 02:00:00:00:00:01

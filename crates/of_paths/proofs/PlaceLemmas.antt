@@ -4,10 +4,10 @@ use Rattle.std.specs.{Prelude.◌||◌, Prelude.map, List.AllByRecursion, List.f
 use Rattle.std.proofs.{lemmas.List.append-nil, lemmas.List.length-map, lemmas.List.map-append, lemmas.List.Concat.flat_map-append}
 use Rattle.of_wire.specs.declared.limits.TheConstants.{OFPP_ALL, OFPP_CONTROLLER, OFPP_FLOOD, OFPP_IN_PORT, OFPP_TABLE}
 use Rattle.of_layers.specs.Reading.{layers_of}
-use Rattle.of_rewrite.specs.{declared.frame.Ttl.Ttl, declared.frame.Ttl.TheVariants.Absent, declared.frame.Ttl.TheVariants.Done, declared.frame.Ttl.TheVariants.Expired}
+use Rattle.of_rewrite.specs.{declared.frame.Ttl.Ttl, declared.frame.Ttl.TheVariants.Expired}
 use Rattle.of_rewrite.specs.TimeToLive.{dec_ttl_result, ttl_of}
-use Rattle.of_actions.specs.declared.action.Action.TheVariants.{DecNwTtl, Group, Output, PopVlan, PushVlan, SetField, SetNwTtl}
-use Rattle.of_actions.specs.declared.instruction.Instruction.TheVariants.{Apply, Clear, Goto, Metadata, Write}
+use Rattle.of_actions.specs.declared.action.Action.TheVariants.{DecNwTtl, Group, Output}
+use Rattle.of_actions.specs.declared.instruction.Instruction.TheVariants.{Apply}
 use Rattle.of_actions.specs.{declared.action.Action.Action, declared.instruction.Instruction.Instruction}
 use Rattle.of_table.specs.declared.flow.Flow.{Flow}
 use Rattle.of_ports.specs.{declared.port.Port.Port, Ports.may_send, Ports.other_ports, Ports.port_at}
@@ -98,8 +98,7 @@ module _ (w : TheWorld) (p : Packet) (rest : List Work) where
 
   ttl_placed : (t : Ttl) → IsPlaced w p.ingress (dec_ttl_row p rest t)
   ttl_placed Expired = (refl, (refl, tt))
-  ttl_placed Done = (refl, (refl, tt))
-  ttl_placed Absent = (refl, (refl, tt))
+  ttl_placed other = (refl, (refl, tt))
 
   by_table : (port max_len : ℕ) (t : Bool) → eqb port OFPP_TABLE ≡ t → IsPlaced w p.ingress (output_row w p rest (Output port max_len) port max_len)
   by_table port max_len true e = rw e (sym (by_test_of_table w.ports p.ingress port max_len true e), (refl, (refl, tt)))
@@ -109,17 +108,11 @@ module _ (w : TheWorld) (p : Packet) (rest : List Work) where
   act_placed (Output port max_len) = by_table port max_len (eqb port OFPP_TABLE) refl
   act_placed (Group group) = group_placed group (w.chosen group)
   act_placed DecNwTtl = ttl_placed (dec_ttl_result (ttl_of (layers_of p.frame)))
-  act_placed (PushVlan type) = (refl, (refl, tt))
-  act_placed PopVlan = (refl, (refl, tt))
-  act_placed (SetNwTtl ttl) = (refl, (refl, tt))
-  act_placed (SetField field value) = (refl, (refl, tt))
+  act_placed other = (refl, (refl, tt))
 
   do_placed : (i : Instruction) → IsPlaced w p.ingress (row w p (Do i ∷ rest))
   do_placed (Apply l) = (refl, (refl, tt))
-  do_placed Clear = (refl, (refl, tt))
-  do_placed (Write l) = (refl, (refl, tt))
-  do_placed (Metadata value mask) = (refl, (refl, tt))
-  do_placed (Goto t) = (refl, (refl, tt))
+  do_placed other = (refl, (refl, tt))
 
 row_placed : (w : TheWorld) (p : Packet) (work : List Work) → IsPlaced w p.ingress (row w p work)
 row_placed w p [] = (refl, tt)
@@ -171,16 +164,7 @@ module _ (w : TheWorld) (i : ℕ) where
 
 one_same : (ports : List Port) (i : ℕ) (s : Step) → places_of_step ports i (line_but_entry s) ≡ places_of_step ports i s
 one_same ports i (steps.Entry t k) = refl
-one_same ports i (steps.Miss t) = refl
-one_same ports i steps.Apply = refl
-one_same ports i steps.Clear = refl
-one_same ports i steps.Write = refl
-one_same ports i (steps.Metadata value mask) = refl
-one_same ports i (steps.Goto t) = refl
-one_same ports i steps.Set = refl
-one_same ports i (steps.Act a) = refl
-one_same ports i steps.TtlExpired = refl
-one_same ports i steps.End = refl
+one_same ports i other = refl
 
 way_places : (ports : List Port) (i : ℕ) (lines : List Step) → flat_map (places_of_step ports i) (way_of lines) ≡ flat_map (places_of_step ports i) lines
 way_places ports i [] = refl
@@ -220,6 +204,5 @@ any_alike : (to : Destination) (xs ys : List Item) → map place_of_item xs ≡ 
 any_alike to xs ys same = any_by_place to xs ∙ ap (list_any (is_place to)) same ∙ sym (any_by_place to ys)
 
 pub lead_alike : (to : Destination) (xs ys : List Item) → map place_of_item xs ≡ map place_of_item ys → lead_to to xs ≡ lead_to to ys
-lead_alike (places.Port n) xs ys same = any_alike (places.Port n) xs ys same
-lead_alike places.Controller xs ys same = any_alike places.Controller xs ys same
 lead_alike places.Nothing xs ys same = ap (λ (n : ℕ). eqb n 0) (sym (length-map xs place_of_item) ∙ ap length same ∙ length-map ys place_of_item)
+lead_alike other xs ys same = any_alike other xs ys same

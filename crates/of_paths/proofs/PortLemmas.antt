@@ -1,13 +1,13 @@
 -- The paths of the frames of each port: they go to the same places as the frame of their class.
-use Rattle.std.proofs.Common.{◌≡◌, ◌<◌, ◌≤◌, ◌+◌, ◌^◌, ℕ, suc, eqb, Bool, true, false, cond, List, [], ◌∷◌, ◌++◌, length, get_or, map, filter, take, refl, sym, ap, subst, ◌∙◌, arith}
-use Rattle.std.{specs.Prelude.◌&&◌, specs.Prelude.bit_and, specs.List.Contains, proofs.Math.Seq.take-suc, proofs.lemmas.Bool.eq-eqb, proofs.lemmas.Bool.eqb-true}
+use Rattle.std.proofs.Common.{◌≡◌, ◌<◌, ◌≤◌, ◌+◌, ◌^◌, ℕ, suc, Bool, true, false, cond, List, [], ◌∷◌, ◌++◌, length, get_or, map, filter, take, refl, sym, ap, subst, ◌∙◌, arith}
+use Rattle.std.{specs.Prelude.◌&&◌, specs.Prelude.bit_and, proofs.Math.Seq.take-suc, proofs.lemmas.Bool.eq-eqb, proofs.lemmas.Bool.eqb-true}
 use Rattle.std.proofs.{lemmas.List.append-nil, lemmas.List.append_assoc, lemmas.List.map-append, lemmas.List.take_all, lemmas.List.Elements.filter-append}
 use Rattle.of_layers.specs.{Fields.ones_of, declared.field.Field.TheVariants.InPort}
 use Rattle.of_oxm.specs.{declared.match_field.MatchField.MatchField, Relations.matches_map}
 use Rattle.of_ports.specs.{declared.port.Port.Port, Ports.may_receive, Ports.number_of_port}
 use Rattle.of_machine.specs.TheWorld.{TheWorld}
 use Rattle.of_symbolic.specs.Parts.{received_fields}
-use Rattle.of_symbolic_run.{specs.FrameSets.InFrames, specs.PortNumbers.came_in_by, specs.Received.IsReceivedAt, specs.Received.items_at, proofs.ConditionLemmas.within_port}
+use Rattle.of_symbolic_run.{specs.PortNumbers.came_in_by, specs.Received.IsReceivedAt, specs.Received.items_at, proofs.ConditionLemmas.within_port}
 use Rattle.of_paths.specs.{declared.path.Merging.Merging, declared.path.Path.Path, declared.path.PathClass.PathClass, declared.path.Paths.Paths, declared.path.UndecidedFrames.UndecidedFrames}
 use Rattle.of_paths.specs.{EachPort.ArePathsOfPorts, EachPort.receiving_numbers, Paths.ArePaths, Paths.InFirstPath, Paths.InPaths, Paths.IsPathClass, Places.place_of_item}
 use Rattle.of_paths.{specs.Ways.class_way, specs.Ways.lines_at, specs.Ways.way_of, proofs.PlaceLemmas.same_places}

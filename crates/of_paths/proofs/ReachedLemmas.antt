@@ -1,5 +1,5 @@
 -- The states of the sets that are left.
-use Rattle.std.proofs.Common.{◌≡◌, ◌<◌, ℕ, zero, suc, List, [], ◌∷◌, ◌++◌, sym, subst, arith, inl, inr, ◌⊎◌, reverse}
+use Rattle.std.proofs.Common.{◌≡◌, ℕ, zero, suc, List, [], ◌∷◌, ◌++◌, sym, subst, arith, inl, inr, ◌⊎◌, reverse}
 use Rattle.std.{specs.List.Contains, proofs.lemmas.List.reverse-append}
 use Rattle.std.proofs.lemmas.List.Elements.{Contains-append_cases, Contains-append_left, Contains-push, Contains-push_cases}
 use Rattle.of_oxm.specs.declared.match_field.MatchField.{MatchField}

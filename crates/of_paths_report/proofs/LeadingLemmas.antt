@@ -1,5 +1,5 @@
 -- The frames of the classes that are told, and no others, go to the place that is asked for.
-use Rattle.std.proofs.Common.{◌≡◌, ◌<◌, ◌^◌, ℕ, zero, suc, eqb, Bool, true, false, cond, List, [], ◌∷◌, ◌++◌, map, Option, Some, None, refl, sym, ap, subst, ◌∙◌, inl, inr, ◌⊎◌, arith}
+use Rattle.std.proofs.Common.{◌≡◌, ◌<◌, ◌^◌, ℕ, zero, suc, eqb, Bool, true, false, cond, List, [], ◌∷◌, ◌++◌, Option, Some, None, refl, sym, ap, subst, ◌∙◌, inl, inr, ◌⊎◌, arith}
 use Rattle.std.{specs.List.Contains, proofs.lemmas.Bool.eqb-true}
 use Rattle.std.proofs.lemmas.List.Elements.{Contains-append_cases, Contains-append_left, Contains-append_right}
 use Rattle.of_oxm.specs.{declared.match_field.MatchField.MatchField, Relations.matches_map}
@@ -9,7 +9,7 @@ use Rattle.of_symbolic.specs.Parts.{received_fields}
 use Rattle.of_symbolic_run.specs.{PortNumbers.came_in_by, Received.IsReceivedAt, Received.items_at}
 use Rattle.of_paths.specs.{declared.destination.Destination.Destination, declared.path.Merging.Merging, declared.path.PathClass.PathClass, declared.path.Paths.Paths}
 use Rattle.of_paths.specs.{declared.path.UndecidedFrames.UndecidedFrames, EachPort.ArePathsOfPorts, EachPort.receiving_numbers, Ingress.ingress_match}
-use Rattle.of_paths.{specs.Paths.ArePaths, specs.Paths.InPaths, specs.Paths.InUndecidedFrames, specs.Paths.IsPathClass, specs.Places.lead_to, proofs.PlaceLemmas.lead_alike}
+use Rattle.of_paths.{specs.Paths.ArePaths, specs.Paths.InPaths, specs.Paths.InUndecidedFrames, specs.Places.lead_to, proofs.PlaceLemmas.lead_alike}
 use Rattle.of_paths.proofs.PortLemmas.{goes_alike, matched_there}
 use Rattle.of_paths_report.specs.{Asked.ArePathsFor, Destinations.InClassLeadingTo, Destinations.is_class_leading}
 

@@ -1,6 +1,6 @@
 -- What is known of each field, one after the other.
-use Rattle.std.proofs.Common.{◌≡◌, ℕ, suc, ◌+◌, ◌<◌, ◌≤◌, Bool, true, false, cond, eqb, List, get_or, Option, Some, None, refl, sym, ap, ◌∙◌, subst, arith}
-use Rattle.std.{specs.Prelude.bit_and, specs.Prelude.IfSome, specs.Prelude.slice_index_or, proofs.lemmas.Bool.eqb-true, proofs.lemmas.Bool.eq-eqb, proofs.lemmas.Bool.Decides.nat_tests}
+use Rattle.std.proofs.Common.{◌≡◌, ℕ, ◌+◌, ◌<◌, ◌≤◌, Bool, true, false, cond, eqb, List, Option, Some, None, refl, sym, ap, ◌∙◌, subst, arith}
+use Rattle.std.{specs.Prelude.bit_and, specs.Prelude.IfSome, proofs.lemmas.Bool.eqb-true, proofs.lemmas.Bool.eq-eqb, proofs.lemmas.Bool.Decides.nat_tests}
 use Rattle.std.proofs.lemmas.Nat.{and_le_r}
 use Rattle.of_layers.{specs.declared.field.Field.Field, specs.Fields.number_of, specs.Fields.ones_of, proofs.Table.same_number}
 use Rattle.of_headers.specs.FieldMap.{value}

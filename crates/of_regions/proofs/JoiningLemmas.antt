@@ -1,11 +1,11 @@
 -- What is known of a field that obeys a rule, and of which a match asks some bits.
-use Rattle.std.proofs.Common.{◌≡◌, ℕ, Bool, true, false, eqb, Option, Some, None, refl, sym, ap, ◌∙◌}
+use Rattle.std.proofs.Common.{◌≡◌, ℕ, true, eqb, Option, Some, None, refl, ap}
 use Rattle.std.{specs.Prelude.bit_and, specs.Prelude.bit_or, specs.Prelude.◌&&◌, proofs.lemmas.Bool.eq-eqb, proofs.lemmas.Bool.eqb-true}
 use Rattle.of_headers.specs.FieldMap.{seen}
 use Rattle.of_oxm.proofs.Related.{and_true}
 use Rattle.of_frames.specs.{declared.shape.Rule.TheVariants.Under, Rules.Obeys}
 use Rattle.of_regions.proofs.BitLemmas.{both_seen, first_seen, seen_twice, mask_ruled, known_under, known_said, within_both}
-use Rattle.of_regions.specs.{declared.joining.Bits.Bits, Joining.IsAsked, Joining.IsRule, Joining.Joined, Known.are_known}
+use Rattle.of_regions.specs.{Joining.IsAsked, Joining.IsRule, Joining.Joined, Known.are_known}
 
 -- ---- the parts of what is known
 

@@ -3,15 +3,13 @@ use Rattle.std.proofs.Common.{◌≡◌, ℕ, Bool, true, false, cond, eqb, Opti
 use Rattle.std.{specs.Prelude.bit_and, specs.Prelude.bit_or, specs.Prelude.◌⊎◌, specs.Prelude.◌^◌, proofs.lemmas.Bool.eqb-true, proofs.lemmas.Bool.eq-eqb}
 use Rattle.of_layers.{specs.declared.field.Field.Field, specs.Fields.number_of, specs.Fields.ones_of, proofs.Table.same_number}
 use Rattle.of_headers.specs.FieldMap.{seen}
-use Rattle.of_frames.specs.{Knowing.IsAmong, declared.shape.Rule.Rule, declared.shape.Rule.TheVariants.Free, declared.shape.Rule.TheVariants.Absent, declared.shape.Rule.TheVariants.Under}
+use Rattle.of_frames.specs.{Knowing.IsAmong, declared.shape.Rule.Rule, declared.shape.Rule.TheVariants.Under}
 use Rattle.of_regions.proofs.DividingLemmas.{high_has, high_less, high_or_low, high_said, high_under, low_lacks, low_less, low_under, more_ruled, more_within, not_both}
 use Rattle.of_regions.{specs.Known.is_known_by, proofs.JoiningLemmas.parts, proofs.JoiningLemmas.whole}
 
 -- ---- a bit more of a field
 
 pub known_high : (ones : ℕ) (rule : Rule) (mask known bit : ℕ) → is_known_by ones rule (Some mask) (Some known) ≡ true → bit_and bit ones ≡ bit → bit_and bit mask ≡ 0 → is_known_by ones rule (Some (bit_or mask bit)) (Some (bit_or known bit)) ≡ true
-known_high ones Free mask known bit h w n = absurd cc
-known_high ones Absent mask known bit h w n = absurd cc
 known_high ones (Under bits said) mask known bit h w n =
     let p = parts ones bits said mask known h in
     whole ones bits said (bit_or mask bit) (bit_or known bit) (record {
@@ -20,10 +18,9 @@ known_high ones (Under bits said) mask known bit h w n =
       under = high_under mask known bits said ones bit p.under n;
       said = high_said mask known bits said ones bit p.under n p.ruled p.said;
     })
+known_high ones other mask known bit h w n = absurd cc
 
 pub known_low : (ones : ℕ) (rule : Rule) (mask known bit : ℕ) → is_known_by ones rule (Some mask) (Some known) ≡ true → bit_and bit ones ≡ bit → bit_and bit mask ≡ 0 → is_known_by ones rule (Some (bit_or mask bit)) (Some known) ≡ true
-known_low ones Free mask known bit h w n = absurd cc
-known_low ones Absent mask known bit h w n = absurd cc
 known_low ones (Under bits said) mask known bit h w n =
     let p = parts ones bits said mask known h in
     whole ones bits said (bit_or mask bit) known (record {
@@ -32,11 +29,11 @@ known_low ones (Under bits said) mask known bit h w n =
       under = low_under mask known bits said ones bit p.under n;
       said = p.said;
     })
+known_low ones other mask known bit h w n = absurd cc
 
 pub under_of : (ones : ℕ) (rule : Rule) (mask known : ℕ) → is_known_by ones rule (Some mask) (Some known) ≡ true → bit_and known mask ≡ known
-under_of ones Free mask known h = absurd cc
-under_of ones Absent mask known h = absurd cc
 under_of ones (Under bits said) mask known h = (parts ones bits said mask known h).under
+under_of ones other mask known h = absurd cc
 
 -- ---- one field that is set, and the others as they were
 

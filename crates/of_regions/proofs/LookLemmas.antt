@@ -1,5 +1,5 @@
 -- What rivals do with a region, one after the other.
-use Rattle.std.proofs.Common.{◌≡◌, ◌<◌, ◌+◌, ℕ, List, Option, Some, None, arith, below_more, sym, ap, ◌∙◌, subst, refl}
+use Rattle.std.proofs.Common.{◌≡◌, ◌+◌, ℕ, List, Option, Some, None, below_more, sym, subst, refl}
 use Rattle.std.{specs.Prelude.slice_get, specs.List.Contains, specs.Option.option_or, proofs.lemmas.List.Elements.All-contains, proofs.lemmas.List.Elements.All-from_recursion}
 use Rattle.of_oxm.specs.declared.match_field.MatchField.{MatchField}
 use Rattle.of_regions.specs.{Conditions.AreConditions, Conditions.IsCondition, declared.meeting.Meeting.TheVariants.Apart, declared.meeting.Meeting.TheVariants.Crosses}

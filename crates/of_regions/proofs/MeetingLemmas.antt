@@ -1,5 +1,5 @@
 -- What a match does with a region.
-use Rattle.std.proofs.Common.{◌≡◌, ℕ, suc, Bool, true, false, cond, eqb, List, [], ◌∷◌, length, get_or, Option, Some, None, refl, sym, ap, ◌∙◌, arith}
+use Rattle.std.proofs.Common.{◌≡◌, ℕ, suc, Bool, true, false, cond, eqb, List, [], ◌∷◌, Option, Some, None, refl, sym, ap, ◌∙◌, arith}
 use Rattle.std.specs.Prelude.{bit_and, not, find, ◌&&◌, ◌||◌}
 use Rattle.std.{specs.List.Contains, specs.List.list_any, specs.Int.Bits.and_comm, proofs.lemmas.Bool.eqb-true, proofs.lemmas.Bool.eq-eqb, proofs.lemmas.Nat.and_assoc}
 use Rattle.of_layers.specs.declared.field.Field.{Field}

@@ -9,7 +9,7 @@ use Rattle.of_layers.specs.Fields.{number_of, ones_of, prerequisite_of}
 use Rattle.of_headers.specs.FieldMap.{seen, value}
 use Rattle.of_oxm.specs.{declared.match_field.MatchField.MatchField, Masks.mask_at, NormalForm.IsKept, Relations.agrees, Relations.bits_looked_at, Relations.matches_map}
 use Rattle.of_oxm.proofs.Joined.{covered}
-use Rattle.of_frames.specs.{declared.shape.Rule.Rule, declared.shape.Rule.TheVariants.Free, declared.shape.Rule.TheVariants.Absent, declared.shape.Rule.TheVariants.Under, declared.shape.Shape.Shape}
+use Rattle.of_frames.specs.{declared.shape.Rule.Rule, declared.shape.Rule.TheVariants.Free, declared.shape.Rule.TheVariants.Under, declared.shape.Shape.Shape}
 use Rattle.of_frames.specs.{declared.shape.Tagging.Tagging, declared.shape.Tagging.TheVariants.Untagged, declared.shape.Tagging.TheVariants.Tagged, Rules.IsTagging, Rules.has_header}
 use Rattle.of_regions.proofs.JoiningLemmas.{Parts, joined_back, joined_forth, joined_known, not_joined, parts, whole}
 use Rattle.of_regions.specs.{declared.region.Region.Region, Conditions.IsCondition, Narrowing.AreNarrowed, Narrowing.IsNarrowedBy, Narrowing.is_of_tag, Known.is_known_by, Known.rule_in}
@@ -43,17 +43,15 @@ module _ (ones : ℕ) (rule : Rule) (mask known bits asked : ℕ) (own : is_know
   mask_in = by_rule rule own
     where
       by_rule : (rule : Rule) → is_known_by ones rule (Some mask) (Some known) ≡ true → bit_and mask ones ≡ mask
-      by_rule Free h = absurd cc
-      by_rule Absent h = absurd cc
       by_rule (Under b s) h = (parts ones b s mask known h).within
+      by_rule other h = absurd cc
 
   under_mask : bit_and known mask ≡ known
   under_mask = by_rule rule own
     where
       by_rule : (rule : Rule) → is_known_by ones rule (Some mask) (Some known) ≡ true → bit_and known mask ≡ known
-      by_rule Free h = absurd cc
-      by_rule Absent h = absurd cc
       by_rule (Under b s) h = (parts ones b s mask known h).under
+      by_rule other h = absurd cc
 
   both : Parts ones mask known (bit_or bits mask) (bit_or asked known)
   both = parts ones mask known (bit_or bits mask) (bit_or asked known) (joined_known ones mask known bits asked mask_in under_mask inside under same)
@@ -62,8 +60,6 @@ module _ (ones : ℕ) (rule : Rule) (mask known bits asked : ℕ) (own : is_know
   still_known = by_rule rule own
     where
       by_rule : (rule : Rule) → is_known_by ones rule (Some mask) (Some known) ≡ true → is_known_by ones rule (Some (bit_or bits mask)) (Some (bit_or asked known)) ≡ true
-      by_rule Free h = absurd cc
-      by_rule Absent h = absurd cc
       by_rule (Under b s) h =
           let p = parts ones b s mask known h in
           let m = bit_or bits mask in
@@ -74,6 +70,7 @@ module _ (ones : ℕ) (rule : Rule) (mask known bits asked : ℕ) (own : is_know
             under = both.under;
             said = ap (bit_and k) (sym p.ruled) ∙ sym (and_assoc b k mask) ∙ ap (λ (n : ℕ). bit_and n b) both.said ∙ p.said;
           })
+      by_rule other h = absurd cc
 
   pub was_seen : (o : Option ℕ) → seen (Some (bit_or bits mask)) o ≡ Some (bit_or asked known) → seen (Some mask) o ≡ Some known
   was_seen None h = absurd cc
@@ -89,9 +86,8 @@ module _ (ones : ℕ) (rule : Rule) (mask known bits asked : ℕ) (own : is_know
 
 -- a field that agrees with both has both under the other mask
 pub both_agree : (ones : ℕ) (rule : Rule) (mask known bits asked : ℕ) → is_known_by ones rule (Some mask) (Some known) ≡ true → bit_and bits ones ≡ bits → bit_and asked bits ≡ asked → (o : Option ℕ) → seen (Some bits) o ≡ Some asked → seen (Some mask) o ≡ Some known → bit_and asked mask ≡ bit_and known bits
-both_agree ones Free mask known bits asked h i u o a b = absurd cc
-both_agree ones Absent mask known bits asked h i u o a b = absurd cc
 both_agree ones (Under x y) mask known bits asked h i u o a b = let p = parts ones x y mask known h in not_joined ones mask known bits asked p.within p.under i u o a b
+both_agree ones other mask known bits asked h i u o a b = absurd cc
 
 -- ---- a region with one more condition
 

@@ -1,16 +1,16 @@
 -- What shapes and taggings say about fields, and what matches ask.
-use Rattle.std.proofs.Common.{◌≡◌, ℕ, ◌<◌, ◌≤◌, Bool, true, false, cond, eqb, List, [], ◌∷◌, Option, Some, None, refl, sym, ap, ◌∙◌, subst, arith}
+use Rattle.std.proofs.Common.{◌≡◌, ℕ, Bool, true, false, cond, eqb, List, [], ◌∷◌, Option, Some, None, refl, subst, arith}
 use Rattle.std.{specs.Prelude.bit_and, specs.Prelude.IfSome, specs.Prelude.unwrap_or, specs.List.AllByRecursion, specs.Option.option_map, proofs.lemmas.Bool.eqb-true, proofs.lemmas.Nat.and_le_l}
 use Rattle.std.proofs.lemmas.Nat.Bits.{bit_at_and, same_from_bits}
 use Rattle.of_layers.specs.declared.field.Field.{Field}
 use Rattle.of_layers.specs.declared.field.Field.TheVariants.{EthType, IpProto, VlanPcp, VlanVid}
 use Rattle.of_layers.{specs.Fields.number_of, specs.Fields.ones_of, specs.Fields.prerequisite_of, specs.Fields.row_of, proofs.Table.same_number}
 use Rattle.of_layers.specs.declared.field.Prerequisite.TheVariants as needs
-use Rattle.of_oxm.specs.{declared.match_field.MatchField.MatchField, Masks.first_at, Masks.looked_at, Masks.value_of, NormalForm.IsKept, NormalForm.IsKeptMask, NormalForm.IsMatch}
+use Rattle.of_oxm.specs.{declared.match_field.MatchField.MatchField, Masks.first_at, Masks.looked_at, Masks.value_of, NormalForm.IsKept, NormalForm.IsKeptMask}
 use Rattle.of_oxm.{specs.Relations.bits_looked_at, proofs.Joined.covered}
 use Rattle.of_frames.specs.Rules.{HasShape, Obeys, has_header, protocol_of, shape_type, valued}
 use Rattle.of_frames.specs.{declared.shape.Shape.Shape, declared.shape.Tagging.Tagging, declared.shape.Tagging.TheVariants.Untagged, declared.shape.Tagging.TheVariants.Tagged}
-use Rattle.of_frames.specs.{declared.shape.Rule.Rule, declared.shape.Rule.TheVariants.Free, declared.shape.Rule.TheVariants.Absent, declared.shape.Rule.TheVariants.Under}
+use Rattle.of_frames.specs.{declared.shape.Rule.TheVariants.Free, declared.shape.Rule.TheVariants.Absent, declared.shape.Rule.TheVariants.Under}
 use Rattle.of_frames.specs.declared.shape.Shape.TheVariants as shapes
 use Rattle.of_regions.specs.{Joining.IsAsked, Joining.IsRule, Known.rule_in, Known.tag_rule, Regions.HasTagging}
 

@@ -10,7 +10,7 @@ use Rattle.of_frames.specs.{declared.shape.Shape.Shape, declared.shape.Tagging.T
 use Rattle.of_frames.proofs.Shapes.{shaped, tags_seen}
 use Rattle.of_regions.specs.Searching.{IsOfNoPort, NoneReceived, TakesSome, AreApartBefore, AreSteps, AreTaking, IsFoundBySearch, InRests, InSome, IsRivalled, IsSplit, IsState, IsStep, IsTakenByRival, IsUnreceived, IsUnrivalled, regions_in}
 use Rattle.of_regions.specs.{declared.looking.Rest.Rest, declared.region.Region.Region, declared.rival.Rival.Rival, Naming.with_place, Dividing.AreDividedBy, Regions.InRegion}
-use Rattle.of_regions.specs.{Witness.HasNoIngress, Witness.fields_in, declared.searching.Found.Found, declared.searching.Found.TheVariants.Undecided, declared.witness.Packet.Packet}
+use Rattle.of_regions.specs.{Witness.HasNoIngress, Witness.fields_in, declared.searching.Found.Found, declared.searching.Found.TheVariants.Undecided}
 use Rattle.of_regions.proofs.NamingLemmas.{is_named, still_ascending}
 
 none_of : {X : Type 0} (x : X) → Contains [] x → ⊥

@@ -1,5 +1,5 @@
 -- The regions with which a search begins.
-use Rattle.std.proofs.Common.{◌≡◌, ℕ, zero, suc, get_or, ◌⊎◌, ◌<◌, ◌≤◌, ◌+◌, true, List, [], ◌∷◌, ◌++◌, length, Option, Some, None, refl, sym, ap, subst, ◌∙◌, arith, inl, inr}
+use Rattle.std.proofs.Common.{◌≡◌, ℕ, zero, suc, get_or, ◌⊎◌, ◌<◌, ◌≤◌, ◌+◌, true, List, [], ◌∷◌, ◌++◌, length, Option, Some, None, refl, subst, arith, inl, inr}
 use Rattle.std.{specs.Prelude.IfSome, specs.List.Contains, proofs.lemmas.List.length-append}
 use Rattle.std.proofs.lemmas.List.Elements.{Contains-append_cases, Contains-append_left, Contains-append_right, Contains-push_cases}
 use Rattle.of_layers.specs.declared.field.Field.{Field}

@@ -1,14 +1,14 @@
 -- Regions divided by tags.
-use Rattle.std.proofs.Common.{◌≡◌, ℕ, Bool, true, false, cond, eqb, Option, Some, None, refl, sym, ap, ◌∙◌, subst, inl, inr, arith}
+use Rattle.std.proofs.Common.{◌≡◌, ℕ, true, cond, eqb, Option, Some, None, refl, sym, ap, ◌∙◌, inl, inr, arith}
 use Rattle.std.{specs.Prelude.bit_and, specs.Prelude.◌⊎◌, proofs.lemmas.Nat.and_assoc}
 use Rattle.of_layers.specs.declared.field.Field.{Field}
 use Rattle.of_layers.specs.declared.field.Field.TheVariants.{EthType, IpProto, VlanPcp, VlanVid}
 use Rattle.of_layers.specs.Fields.{number_of, ones_of, prerequisite_of, row_of}
 use Rattle.of_layers.specs.declared.field.Prerequisite.TheVariants as needs
 use Rattle.of_headers.specs.FieldMap.{seen}
-use Rattle.of_frames.specs.{Knowing.IsAmong, declared.shape.Shape.Shape, declared.shape.Tagging.Tagging, declared.shape.Tagging.TheVariants.Untagged, declared.shape.Tagging.TheVariants.Tagged}
+use Rattle.of_frames.specs.{Knowing.IsAmong, declared.shape.Shape.Shape, declared.shape.Tagging.Tagging}
 use Rattle.of_frames.specs.{declared.shape.Rule.Rule, declared.shape.Rule.TheVariants.Free, declared.shape.Rule.TheVariants.Absent, declared.shape.Rule.TheVariants.Under}
-use Rattle.of_frames.specs.Rules.{IsTagging, has_header}
+use Rattle.of_frames.specs.Rules.{has_header}
 use Rattle.of_regions.proofs.RuleLemmas.{pcp_free, protocol_said, said_or, type_said, vid_free}
 use Rattle.of_regions.specs.{declared.region.Region.Region, Regions.AreParts, Regions.IsEither, Known.AllKnown, Known.is_known_by, Known.rule_in}
 

@@ -1,5 +1,5 @@
 -- What is known of fields, one after the other.
-use Rattle.std.specs.Prelude.{◌≡◌, ℕ, List, Option, None, IfSome}
+use Rattle.std.specs.Prelude.{◌≡◌, List, Option, None}
 use Rattle.of_layers.specs.{declared.field.Field.Field, Fields.ones_of}
 use Rattle.of_headers.specs.FieldMap.{value}
 use Rattle.of_oxm.specs.{Masks.mask_at, Masks.looked_at, Masks.value_of, declared.match_field.MatchField.MatchField}

@@ -1,5 +1,5 @@
 -- How regions are divided: by a bit that the field of a match looks at, or by tags.
-use Rattle.std.specs.Prelude.{◌≡◌, ◌<◌, ◌⊎◌, ◌^◌, ℕ, Option, None, Some, bit_and}
+use Rattle.std.specs.Prelude.{◌≡◌, ◌⊎◌, ◌^◌, ℕ, Option, None, Some, bit_and}
 use Rattle.of_layers.specs.{declared.field.Field.Field, declared.field.Field.TheVariants.VlanVid}
 use Rattle.of_headers.specs.FieldMap.{seen}
 use Rattle.of_oxm.specs.{declared.match_field.MatchField.MatchField, Masks.mask_at, Relations.bits_looked_at}

@@ -1,6 +1,5 @@
 -- THE PACKETS OF REGIONS on which conditions agree.
 use Rattle.std.specs.Prelude.{◌≡◌, ◌⊎◌, ℕ, Bool, true, false, List, Option}
-use Rattle.std.specs.List.{Contains}
 use Rattle.of_layers.specs.{declared.field.Field.Field, declared.field.Field.TheVariants.VlanPcp, declared.field.Field.TheVariants.VlanVid}
 use Rattle.of_oxm.specs.{declared.match_field.MatchField.MatchField, Relations.matches_map}
 use Rattle.of_regions.specs.{declared.region.Region.Region, Regions.InRegion, Regions.IsSomeTagging, Searching.InSome}

@@ -14,10 +14,8 @@ played_all begun answers answers' ends ends' s new p e = record { more = p.more;
 
 -- nothing fails to be written where nothing is
 written : (h : Halt) → WritesFail (Err h) 0 → h ≡ Write → ⊥
-written (Bad n) w e = cc
-written Memory w e = cc
-written Read w e = cc
 written Write w e = omega (arith, w)
+written other w e = cc
 
 -- where a fault comes before the end, the rows so far are no switch
 not_yet : (ended : Bool) (file : List ℕ) → ended ≡ false → (rows_of_lines (lines_read ended file)).bad ≡ None → (outcome : FileOutcome State) → event_file ended file outcome → ⊥
@@ -32,7 +30,6 @@ played_not begun tale Read answers answers' ends ends' taken taken' r w = record
 played_not begun tale Write answers answers' ends ends' taken taken' r w = absurd (written Write w refl)
 
 pub faults_unplayed : (h : Halt) (reads ends ends' failures failures' : ℕ) → ReadsFail 1000000 (Err h) reads ends ends' failures failures' → WritesFail (Err h) 0 → Faults (ended_so (Err h)) reads ends ends' failures failures' 0
-faults_unplayed (Bad n) reads ends ends' failures failures' h w = record { done = λ e. cc; once = omega (arith, h); read_fault = λ e. cc; failed_read = λ lt. absurd (omega (arith, lt, h)); write_fault = (λ e. cc, λ lt. absurd (omega (arith, lt))) }
-faults_unplayed Memory reads ends ends' failures failures' h w = record { done = λ e. cc; once = omega (arith, h); read_fault = λ e. cc; failed_read = λ lt. absurd (omega (arith, lt, h)); write_fault = (λ e. cc, λ lt. absurd (omega (arith, lt))) }
 faults_unplayed Read reads ends ends' failures failures' h w = let b = by_read reads ends ends' failures failures' h in record { done = λ e. cc; once = b.0; read_fault = λ e. b.1; failed_read = λ lt. refl; write_fault = (λ e. cc, λ lt. absurd (omega (arith, lt))) }
 faults_unplayed Write reads ends ends' failures failures' h w = absurd (written Write w refl)
+faults_unplayed other reads ends ends' failures failures' h w = record { done = λ e. cc; once = omega (arith, h); read_fault = λ e. cc; failed_read = λ lt. absurd (omega (arith, lt, h)); write_fault = (λ e. cc, λ lt. absurd (omega (arith, lt))) }

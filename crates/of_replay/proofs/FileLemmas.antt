@@ -65,10 +65,9 @@ read_nothing is answers ends = record { more = []; answers_are = answers-none an
 
 -- a file that is read whole was not
 pub read_stopped : {A : Type 0} (is : Meaning A) → ((file : List ℕ) (outcome : FileOutcome A) → is false file outcome → ⊥) → (h : Halt) (answers answers' : Known) (ends ends' : ℕ) (file : List ℕ) → ReadsFile (Err h) answers answers' ends ends' file → ReadsWhole is (Err (ended_so (Err h))) answers answers' ends ends'
-read_stopped is none (Bad n) answers answers' ends ends' file r = absurd r.is
 read_stopped is none Memory answers answers' ends ends' file r = record { more = r.more; answers_are = r.answers_are; whole = r.whole; is_read = tt }
 read_stopped is none Read answers answers' ends ends' file r = record { more = r.more; answers_are = r.answers_are; whole = r.whole; is_read = (r.is, λ outcome i. none (given r.more) outcome (rw r.is at i)) }
-read_stopped is none Write answers answers' ends ends' file r = absurd r.is
+read_stopped is none other answers answers' ends ends' file r = absurd r.is
 
 -- a file was read whole
 pub read_whole : {A : Type 0} (is : Meaning A) (result : Result A Ended) (answers answers' : Known) (ends ends' : ℕ) (file : List ℕ) → ReadsFile (Ok tt) answers answers' ends ends' file → IsRead is result true file → ReadsWhole is result answers answers' ends ends'

@@ -29,10 +29,9 @@ chunk_size n buffer chunk is le size =
 
 -- no read fails in a chunk
 pub chunk_reads : (most : ℕ) (begun : State) (tale : RowText) (h : Halt) (earlier lines : List (List ℕ)) (out : List ℕ) (first taken : Option (List ℕ)) (reads ends ends' failures failures' : ℕ) → Halts begun tale h earlier lines out first taken → failures' ≡ failures → ReadsFail most (Err h) reads ends ends' failures failures'
-chunk_reads most begun tale (Bad n) earlier lines out first taken reads ends ends' failures failures' h e = e
-chunk_reads most begun tale Memory earlier lines out first taken reads ends ends' failures failures' h e = e
 chunk_reads most begun tale Read earlier lines out first taken reads ends ends' failures failures' h e = absurd h
 chunk_reads most begun tale Write earlier lines out first taken reads ends ends' failures failures' h e = omega (arith, e)
+chunk_reads most begun tale other earlier lines out first taken reads ends ends' failures failures' h e = e
 
 -- a read that gave no bytes
 pub given_same : (more : List Answer) (one : Answer) → answer_bytes one ≡ [] → given (more ++ one ∷ []) ≡ given more
@@ -66,10 +65,8 @@ pub not_whole : (ends ends' : ℕ) (known : Known) → ends' ≡ ends → nat_lt
 not_whole ends ends' known same ended = let e : true ≡ false = sym ended ∙ not_ended ends ends' same in cc
 
 plays_halt : (begun : State) (tale : RowText) (h : Halt) (ended : Bool) (earlier lines : List (List ℕ)) (out : List ℕ) (first taken : Option (List ℕ)) → Halts begun tale h earlier lines out first taken → Plays begun tale (Err h) ended earlier lines out first taken
-plays_halt begun tale (Bad n) ended earlier lines out first taken h = h
-plays_halt begun tale Memory ended earlier lines out first taken h = h
 plays_halt begun tale Read ended earlier lines out first taken h = absurd h
-plays_halt begun tale Write ended earlier lines out first taken h = h
+plays_halt begun tale other ended earlier lines out first taken h = h
 
 plays_read : (begun : State) (tale : RowText) (result : Result (Unit {0}) Halt) (answers answers' : Known) (ends ends' : ℕ) (more : List Answer) (earlier : List (List ℕ)) (bytes out : List ℕ) (first taken : Option (List ℕ)) (ended : Bool) → AllAnswers answers answers' more → (nat_lt ends ends' ≡ true → NoneLeft answers') → nat_lt ends ends' ≡ ended
     → given more ≡ bytes → earlier_lines more ≡ earlier → Plays begun tale result ended earlier (lines_read ended bytes) out first taken → PlaysRead begun tale result answers answers' ends ends' out first taken
@@ -214,12 +211,11 @@ nothing_read begun tale answers ends taken = record {
 -- WHAT `replay` PRINTS is what the events print
 
 same_end : (f g : List (List ℕ) → List ℕ) → ((lines : List (List ℕ)) → f lines ≡ g lines) → (e : Ended) (ended : Bool) (earlier lines : List (List ℕ)) (old new : Option (List ℕ)) → EndsPrinting f e ended earlier lines old new → EndsPrinting g e ended earlier lines old new
-same_end f g same Done ended earlier lines old new h = (h.0, h.1, subst (Appends old new) (same lines) h.2)
 same_end f g same (BadRow n) ended earlier lines old new h = (h.0, subst (Appends old new) (same lines) h.1)
 same_end f g same (Text t) ended earlier lines old new h = absurd h
-same_end f g same ReadFault ended earlier lines old new h = (h.0, h.1, subst (Appends old new) (same lines) h.2)
 same_end f g same WriteFault ended earlier lines old new h = subst (λ (x : List ℕ). WrotePrefix old x new) (same lines) h
 same_end f g same NoMemory ended earlier lines old new h = record { more = h.more; others = h.others; lines_are = h.lines_are; good = h.good; wrote = subst (Appends old new) (same (earlier ++ h.more)) h.wrote }
+same_end f g same other ended earlier lines old new h = (h.0, h.1, subst (Appends old new) (same lines) h.2)
 
 pub replays_plain : (begun : State) (e : Ended) (answers answers' : Known) (ends ends' : ℕ) (taken taken' : Option (List ℕ)) → PrintsLines (told begun plain_row_text) e answers answers' ends ends' taken taken'
     → PrintsLines (λ lines. printed_from begun (rows_of_lines lines).events) e answers answers' ends ends' taken taken'

@@ -101,10 +101,8 @@ pub same_does : (q : Quantifier) (d : Demand) (port : ℕ) (lines : List Step) (
 same_does q d port lines xs ys plain same = sym (does_bare q d port lines xs plain) ∙ ap (is_done q d port lines) same ∙ does_bare q d port lines ys plain
 
 leaving_bare : (d : Demand) (items : List Item) → is_leaving d (map bare items) ≡ is_leaving d items
-leaving_bare (LeavesBy tos) items = refl
-leaving_bare (LeavesOnlyBy tos) items = refl
-leaving_bare (PassesTable table) items = refl
 leaving_bare (Has tos fields) items = any_bare tos.items items
+leaving_bare other items = refl
 
 pub same_leaving : (d : Demand) (xs ys : List Item) → map bare xs ≡ map bare ys → is_leaving d xs ≡ is_leaving d ys
 same_leaving d xs ys same = sym (leaving_bare d xs) ∙ ap (is_leaving d) same ∙ leaving_bare d ys

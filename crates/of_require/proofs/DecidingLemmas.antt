@@ -1,8 +1,7 @@
 -- What the class of a set of frames says about all of them, if they come in by one port.
 use Rattle.std.proofs.Common.{◌≡◌, ◌<◌, ◌^◌, ℕ, zero, suc, eqb, Bool, true, false, List, [], ◌∷◌, ◌++◌, length, map, refl, sym, subst, ap, ◌∙◌, arith, inl, inr}
-use Rattle.std.{specs.Prelude.◌&&◌, specs.Prelude.bit_and, specs.Prelude.not, specs.List.Contains, proofs.lemmas.Bool.eq-eqb, proofs.lemmas.Bool.eqb-true, proofs.lemmas.Bool.ne_eqb}
+use Rattle.std.{specs.Prelude.not, specs.List.Contains, proofs.lemmas.Bool.ne_eqb}
 use Rattle.std.proofs.{lemmas.List.Elements.Contains-append_cases, lemmas.List.Elements.Contains-append_right, lemmas.List.Elements.Contains-push_cases, lemmas.List.append_assoc}
-use Rattle.of_layers.specs.{Fields.ones_of, declared.field.Field.TheVariants.InPort}
 use Rattle.of_oxm.specs.Relations.{matches_map}
 use Rattle.of_machine.specs.{declared.data.Step.Step, TheWorld.TheWorld}
 use Rattle.of_symbolic.specs.Parts.{received_fields}
@@ -187,7 +186,6 @@ module _ (w : TheWorld) (r : Requirement) where
 
   -- what is found for other ports stands if nothing was found for some
   pub joined_none : (ports others : List ℕ) (steps : ℕ) (d : Decision) → NoneMatch w r (λ q. Contains ports q) → IsDecisionFor others w r steps d → IsDecisionFor (ports ++ others) w r steps d
-  joined_none ports others steps (Frame shown) none h = h
-  joined_none ports others steps (Undecided port) none h = h
   joined_none ports others steps NoneMatches none h = none_match_more ports others none h
   joined_none ports others steps NoFrame none h = none_more ports others (no_match (λ q. Contains ports q) none) h
+  joined_none ports others steps other none h = h

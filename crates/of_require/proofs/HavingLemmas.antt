@@ -11,7 +11,7 @@ use Rattle.of_symbolic_run.specs.{declared.state.Emission.Emission, declared.sta
 use Rattle.of_symbolic_run.specs.States.{items_for, items_of_emission, packet_for}
 use Rattle.of_paths.specs.declared.destination.Destination.{Destination}
 use Rattle.of_require.specs.declared.requirement.Quantifier.{Quantifier}
-use Rattle.of_require.specs.declared.requirement.Quantifier.TheVariants.{AtLeastOne, Each, No}
+use Rattle.of_require.specs.declared.requirement.Quantifier.TheVariants.{Each, No}
 use Rattle.of_require.specs.{Packets.packet_actions, Requirements.frame_has, Requirements.goes_among, Requirements.has_fields, Requirements.have}
 use Rattle.of_require.proofs.BareLemmas.{bare, bare_one, goes_bare}
 use Rattle.of_json.specs.ChangesInWords.{item_frame}
@@ -85,8 +85,7 @@ module _ (fields : List MatchField) (port : ℕ) where
 
   abbrev marks_have : Quantifier → List Destination → List (Item × Bool) → Bool
   marks_have Each tos marks = list_all (λ (m : Item × Bool). not (goes_among tos m.0) || m.1) marks
-  marks_have No tos marks = list_any (λ (m : Item × Bool). goes_among tos m.0 && m.1) marks
-  marks_have AtLeastOne tos marks = list_any (λ (m : Item × Bool). goes_among tos m.0 && m.1) marks
+  marks_have other tos marks = list_any (λ (m : Item × Bool). goes_among tos m.0 && m.1) marks
 
   module _ (tos : List Destination) where
     each_marked : (items : List Item) → marks_have Each tos (map mark items) ≡ have Each tos fields port items
@@ -99,8 +98,7 @@ module _ (fields : List MatchField) (port : ℕ) where
 
     have_marked : (q : Quantifier) (items : List Item) → marks_have q tos (map mark items) ≡ have q tos fields port items
     have_marked Each items = each_marked items
-    have_marked No items = some_marked items
-    have_marked AtLeastOne items = some_marked items
+    have_marked other items = some_marked items
 
     pub same_have : (q : Quantifier) (xs ys : List Item) → map mark xs ≡ map mark ys → have q tos fields port xs ≡ have q tos fields port ys
     same_have q xs ys same = sym (have_marked q xs) ∙ ap (marks_have q tos) same ∙ have_marked q ys

@@ -4,7 +4,7 @@ use Rattle.std.{specs.List.Contains, proofs.Math.Seq.take-suc, proofs.lemmas.Boo
 use Rattle.of_ports.specs.{declared.port.Port.Port, Ports.number_of_port, Ports.port_at}
 use Rattle.of_machine.specs.TheWorld.{TheWorld}
 use Rattle.of_require.specs.declared.deciding.Decision.{Decision}
-use Rattle.of_require.specs.declared.deciding.Decision.TheVariants.{Frame, NoFrame, NoneMatches, Undecided}
+use Rattle.of_require.specs.declared.deciding.Decision.TheVariants.{NoFrame, NoneMatches}
 use Rattle.of_require.{specs.declared.requirement.Requirement.Requirement, specs.Deciding.IsDecisionFor, specs.Decisions.IsDecision, specs.Decisions.NoneMatch, proofs.DecidingLemmas.only_in}
 use Rattle.of_symbolic_run.specs.PortNumbers.{IsReceivingPort}
 
@@ -41,7 +41,6 @@ none_received w r port silent frame q there received matched leaving =
 -- ---- all frames
 
 pub all_ports : (w : TheWorld) (r : Requirement) (steps : ℕ) (d : Decision) → IsDecisionFor (map number_of_port w.ports) w r steps d → IsDecision w r steps d
-all_ports w r steps (Frame shown) h = h
 all_ports w r steps NoFrame h = λ frame port any deciding. h frame port (number_listed w.ports port deciding.about.received.ingress deciding.about.received.there) deciding
 all_ports w r steps NoneMatches h = λ frame port any received matched leaving. h frame port (number_listed w.ports port received.ingress received.there) received matched leaving
-all_ports w r steps (Undecided port) h = h
+all_ports w r steps other h = h

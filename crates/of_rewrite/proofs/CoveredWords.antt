@@ -1,7 +1,7 @@
 -- The words that checksums cover, in the bits of a frame.
 use Rattle.std.specs.Prelude.{ℕ, ◌*◌, true, false, List, ◌++◌, drop}
 use Rattle.of_headers.specs.{declared.layout.Layout.Layout, declared.layout.Network.Network}
-use Rattle.of_headers.specs.declared.layout.Network.TheVariants.{Plain, Arp, Ipv4, Ipv6}
+use Rattle.of_headers.specs.declared.layout.Network.TheVariants.{Ipv4, Ipv6}
 use Rattle.of_rewrite.specs.{declared.sums.Span.Span, Checksum.words_of, Checksum.updated, Checksum.carried_updated}
 use Rattle.of_rewrite.specs.Renewal.{packet_at, header_span, address_span, carried_span}
 
@@ -17,7 +17,6 @@ carried_words l s = words_in (address_span (packet_at l) l.network) s ++ words_i
 
 -- how the checksum of what is carried is updated: over IPv4 that of UDP is optional
 abbrev pub carried_rule : Network → ℕ → List ℕ → List ℕ → ℕ
-carried_rule Plain = updated
-carried_rule Arp = updated
 carried_rule (Ipv4 p) = carried_updated true p.transport
 carried_rule (Ipv6 named p) = carried_updated false p.transport
+carried_rule other = updated

@@ -1,7 +1,7 @@
 -- The words that a checksum covers are those of its parts of the layers.
 use Rattle.std.proofs.Common.{◌≡◌, ℕ, zero, suc, ◌+◌, ◌*◌, ◌/◌, ◌%◌, Bool, true, false, cond, List, [], ◌∷◌, ◌++◌, length, take, drop, refl, sym, ap, ◌∙◌, arith, append_assoc, slice_index}
 use Rattle.std.{specs.Prelude.◌==◌, specs.Prelude.◌||◌, specs.Prelude.not, specs.Prelude.nat_lt, proofs.lemmas.List.length-append, proofs.lemmas.List.take-append-drop}
-use Rattle.of_layers.specs.Layers.{Item, Cell, plain, Layers, Carried, Extension, Options, Fragment, Body, Plain, Arp, Ipv4, Ipv6, cells_in, byte_cells, inner_cells, tag_cells, extension_cells, cells, encoded, addresses, outer_tag, inner_tag, ether_type, ipv4, ipv6, options, fragment, items_of, size_of, all_bytes, next_before, header_checksum, checksum}
+use Rattle.of_layers.specs.Layers.{Item, Cell, plain, Layers, Carried, Extension, Options, Fragment, Body, Plain, Ipv4, Ipv6, cells_in, byte_cells, inner_cells, tag_cells, extension_cells, cells, encoded, addresses, outer_tag, inner_tag, ether_type, ipv4, ipv6, options, fragment, items_of, size_of, all_bytes, next_before, header_checksum, checksum}
 use Rattle.of_layers.specs.{declared.transport.Transport.Transport, declared.transport.Transport.TheVariants.Nothing, Fields.row_of}
 use Rattle.of_layers.{specs.WellFormed.FitsItems, specs.WellFormed.IsIpv4, specs.WellFormed.IsIpv6, specs.WellFormed.IsLayers, specs.Looking.name_is, proofs.EncodingLemmas.encoded-append}
 use Rattle.of_headers.{specs.Places.width, specs.Places.network_of, specs.Places.layout_of, specs.declared.layout.Layout.Layout, proofs.LocateLemmas.width-append, proofs.LocateLemmas.width_bytes}
@@ -234,10 +234,9 @@ covers_ipv6 ends tags type ns es c rest h n f =
     }
 
 covers_at : (ends : List ℕ) (tags : List (List ℕ)) (type : ℕ) (b : Body) → IsLayers (frame_with ends tags type b) → (n : ℕ) (f : ℕ → ℕ) → Covers (frame_with ends tags type b) n f
-covers_at ends tags type (Plain rest) h n f = record { in_header = none_covered _; in_addresses = none_covered _; in_carried = none_covered _ }
-covers_at ends tags type (Arp ns rest) h n f = record { in_header = none_covered _; in_addresses = none_covered _; in_carried = none_covered _ }
 covers_at ends tags type (Ipv4 ns o c rest) h n f = covers_ipv4 ends tags type ns o c rest h n f
 covers_at ends tags type (Ipv6 ns es c rest) h n f = covers_ipv6 ends tags type ns es c rest h n f
+covers_at ends tags type other h n f = record { in_header = none_covered _; in_addresses = none_covered _; in_carried = none_covered _ }
 
 pub covers : (l : Layers) → IsLayers l → (n : ℕ) (f : ℕ → ℕ) → Covers l n f
 covers l h n f = covers_at l.ends l.tags l.type l.body h n f
@@ -263,9 +262,7 @@ set_in_place n v l = renew_in (layout_of l) (encoded (cells l)) (encoded (replac
 
 rule_is_that : (b : Body) → checksum_rule b ≡ carried_rule (network_of b)
 rule_is_that (Plain rest) = refl
-rule_is_that (Arp ns rest) = refl
-rule_is_that (Ipv4 ns o c rest) = refl
-rule_is_that (Ipv6 ns es c rest) = refl
+rule_is_that other = refl
 
 pub set_where : (n v : ℕ) (l : Layers) → IsLayers l → number_set n v l ≡ set_in_place n v l
 unfolding number_set

@@ -1,7 +1,7 @@
 -- Where the layers of a frame begin stays where a number is replaced.
 use Rattle.std.proofs.Common.{◌≡◌, ℕ, ◌+◌, ◌-◌, ◌*◌, ◌^◌, ◌<◌, ◌≤◌, List, [], ◌∷◌, ◌++◌, length, take, drop, Option, Some, None, refl, sym, ap, subst, ◌∙◌, arith, true, false, cond}
 use Rattle.std.{specs.Prelude.nat_le, proofs.lemmas.List.append-nil, proofs.lemmas.List.take_all, proofs.lemmas.List.drop_all}
-use Rattle.of_layers.specs.Layers.{Layers, Body, Plain, Arp, Ipv4, Ipv6, header_checksum, checksum, ttl}
+use Rattle.of_layers.specs.Layers.{Layers, Body, Plain, header_checksum, checksum, ttl}
 use Rattle.of_layers.specs.{Reading.layers_of, WellFormed.AreBytes}
 use Rattle.of_headers.specs.{declared.layout.Layout.Layout, Places.network_of, Places.layout_of}
 use Rattle.of_rewrite.specs.{Rewriting.header_updated, Rewriting.carried_after, Replaced.tags_with, Replaced.body_with, Replaced.layers_with, Replaced.layers_set, TimeToLive.layers_ttl_decremented}
@@ -13,9 +13,7 @@ tags_same n f (t ∷ ts) = refl
 
 network_same : (n : ℕ) (f : ℕ → ℕ) (b : Body) → network_of (body_with n f b) ≡ network_of b
 network_same n f (Plain rest) = refl
-network_same n f (Arp ns rest) = refl
-network_same n f (Ipv4 ns opts carried rest) = refl
-network_same n f (Ipv6 ns extensions carried rest) = refl
+network_same n f other = refl
 
 pub layout_with : (n : ℕ) (f : ℕ → ℕ) (l : Layers) → layout_of (layers_with n f l) ≡ layout_of l
 layout_with n f l = λ i. record { tags = tags_same n f l.tags i; network = network_same n f l.body i }

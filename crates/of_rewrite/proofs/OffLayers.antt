@@ -47,11 +47,8 @@ udp_off lack m c w a b x y small are f g e there =
 
 kind_off : (lack : Bool) (t : Transport) (m c w : ℕ) (a b x y : List ℕ) → c < 65536 → AreWords (a ++ b) → length a ≡ length x → length b ≡ length y →
     w ≡ carried_updated lack t c (a ++ (c ∷ b)) (x ++ (c ∷ y)) → (lack && is_left_out t (Some c)) ≡ false → (m + sum (x ++ (w ∷ y))) % 65535 ≡ (m + sum (a ++ (c ∷ b))) % 65535
-kind_off lack Nothing m c w a b x y small are f g e there = renewed_off m c w a b x y small are f g e
-kind_off lack Tcp m c w a b x y small are f g e there = renewed_off m c w a b x y small are f g e
 kind_off lack Udp m c w a b x y small are f g e there = udp_off lack m c w a b x y small are f g e there
-kind_off lack Icmpv4 m c w a b x y small are f g e there = renewed_off m c w a b x y small are f g e
-kind_off lack Icmpv6 m c w a b x y small are f g e there = renewed_off m c w a b x y small are f g e
+kind_off lack other m c w a b x y small are f g e there = renewed_off m c w a b x y small are f g e
 
 -- a checksum that was computed is never written as 0, which would say that it was left out
 never_zero_some : (n : ℕ) → (never_zero n == 0) ≡ false

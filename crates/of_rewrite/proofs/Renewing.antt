@@ -2,7 +2,7 @@
 use Rattle.std.proofs.Common.{◌≡◌, ℕ, zero, suc, ◌+◌, ◌*◌, ◌/◌, ◌%◌, ◌^◌, ◌<◌, ◌≤◌, ◌≢◌, Bool, true, false, cond, List, ◌∷◌, ◌++◌, length, take, drop, set, subst, Option, Some, None, refl, sym, ap, ◌∙◌, arith}
 use Rattle.std.proofs.lemmas.List.{append-nil, take_at, drop_at, length-take-le, take-append-drop, drop-drop}
 use Rattle.std.{specs.Prelude.◌==◌, specs.Prelude.◌&&◌, specs.Prelude.◌||◌, specs.Prelude.not, proofs.Math.ListN.length-set, proofs.lemmas.Nat.mod-pow-add, proofs.Math.Nat.mod-eq_of_lt}
-use Rattle.of_layers.specs.declared.transport.Transport.TheVariants.{Nothing, Tcp, Udp, Icmpv4, Icmpv6}
+use Rattle.of_layers.specs.declared.transport.Transport.TheVariants.{Nothing, Udp}
 use Rattle.of_layers.specs.Layers.{Cell, Layers, cells, encoded, size_of}
 use Rattle.of_layers.specs.{declared.place.Place.Place, declared.transport.Transport.Transport, Bits.bits, Bits.bits_of, Looking.look_up, Looking.locate_at, Reading.word, WellFormed.AreBytes}
 use Rattle.of_layers.proofs.{BitLemmas.length-bits, BitLemmas.length-bits_of, BitLemmas.bits_of-append, EncodingLemmas.word_from}
@@ -60,8 +60,6 @@ either_room true a k n h = omega arith
 either_room false a k n h = h
 
 span_room : (n q : ℕ) (net : Network) → HasRoomIn n q net → SpanRoom n q net
-span_room n q network.Plain h = record { in_header = omega arith; in_addresses = omega arith; in_carried = omega arith }
-span_room n q network.Arp h = record { in_header = omega arith; in_addresses = omega arith; in_carried = omega arith }
 span_room n q (network.Ipv4 p) h =
     let a : 20 ≤ p.at = h.0 in
     let b : q + p.at + size_of p.transport ≤ n = h.1 in
@@ -70,6 +68,7 @@ span_room n q (network.Ipv6 named p) h =
     let a : 40 ≤ p.at = h.0 in
     let b : q + p.at + size_of p.transport ≤ n = h.1 in
     record { in_header = omega arith; in_addresses = either_room (without_addresses p.transport) (q + 8) 16 n (omega arith); in_carried = omega arith }
+span_room n q other h = record { in_header = omega arith; in_addresses = omega arith; in_carried = omega arith }
 
 header_covered : (l : Layout) (s : List ℕ) → AreBytes s → HasRoom l (length s) → (t : List ℕ) → header_words l (bits_of s) ≡ covered_words (sums_of l t).header s
 header_covered l s b h t = span_is (header_span (packet_at l) l.network) s b (span_room (length s) (packet_at l) l.network h.1).in_header ∙ sym (append-nil (span_words (header_span (packet_at l) l.network) s))
@@ -127,17 +126,11 @@ same_value k cs ds t u (Some at) h i b c is js e f same room inside =
 
 in_carried : (n q : ℕ) (k : Transport) → q + size_of k ≤ n → IsIn (moved q (checksum_byte k)) n
 in_carried n q Nothing h = tt
-in_carried n q Tcp h = omega arith
-in_carried n q Udp h = omega arith
-in_carried n q Icmpv4 h = omega arith
-in_carried n q Icmpv6 h = omega arith
+in_carried n q other h = omega arith
 
 kind_rule : (t : Bool) (k : Transport) (z x : ℕ) (a b : List ℕ) (f g : Span) → z ≡ x → carried_updated t k z a b ≡ settled t k z (record { value = updated x a b; differs = false || differ a b; front = f; back = g })
-kind_rule t Nothing z x a b f g e = ap (λ (k : ℕ). updated k a b) e
-kind_rule t Tcp z x a b f g e = ap (λ (k : ℕ). updated k a b) e
 kind_rule t Udp z x a b f g e = ap (λ (k : ℕ). cond ((t && (z == 0)) || not (differ a b)) z (never_zero (updated k a b))) e
-kind_rule t Icmpv4 z x a b f g e = ap (λ (k : ℕ). updated k a b) e
-kind_rule t Icmpv6 z x a b f g e = ap (λ (k : ℕ). updated k a b) e
+kind_rule t other z x a b f g e = ap (λ (k : ℕ). updated k a b) e
 
 never_below : (k : ℕ) → k < 65536 → never_zero k < 65536
 never_below k h = elim (k == 0) as (λ t. cond t 65535 k < 65536) [ true ↦ omega arith | false ↦ h ]
@@ -147,29 +140,23 @@ either_below true a b h k = h
 either_below false a b h k = k
 
 kind_below : (t : Bool) (k : Transport) (z : ℕ) (m : Sum) → z < 65536 → m.value < 65536 → settled t k z m < 65536
-kind_below t Nothing z m h j = j
-kind_below t Tcp z m h j = j
 kind_below t Udp z m h j = either_below ((t && (z == 0)) || not m.differs) z (never_zero m.value) h (never_below m.value j)
-kind_below t Icmpv4 z m h j = j
-kind_below t Icmpv6 z m h j = j
+kind_below t other z m h j = j
 
 rooms : (n q : ℕ) (net : Network) → HasRoomIn n q net → IsIn (header_checksum_at q net) n × IsIn (carried_at q net) n
-rooms n q network.Plain h = (tt, tt)
-rooms n q network.Arp h = (tt, tt)
 rooms n q (network.Ipv4 p) h = let a : 20 ≤ p.at = h.0 in let b : q + p.at + size_of p.transport ≤ n = h.1 in (omega arith, in_carried n (q + p.at) p.transport b)
 rooms n q (network.Ipv6 named p) h = (tt, in_carried n (q + p.at) p.transport h.1)
+rooms n q other h = (tt, tt)
 
 rule_is : (net : Network) (z x : ℕ) (a b : List ℕ) (f g : Span) → z ≡ x → carried_rule net z a b ≡ settled_in net z (record { value = updated x a b; differs = false || differ a b; front = f; back = g })
-rule_is network.Plain z x a b f g e = ap (λ (k : ℕ). updated k a b) e
-rule_is network.Arp z x a b f g e = ap (λ (k : ℕ). updated k a b) e
 rule_is (network.Ipv4 p) z x a b f g e = kind_rule true p.transport z x a b f g e
 rule_is (network.Ipv6 named p) z x a b f g e = kind_rule false p.transport z x a b f g e
+rule_is other z x a b f g e = ap (λ (k : ℕ). updated k a b) e
 
 settled_below : (net : Network) (z : ℕ) (m : Sum) → z < 65536 → m.value < 65536 → settled_in net z m < 65536
-settled_below network.Plain z m h k = k
-settled_below network.Arp z m h k = k
 settled_below (network.Ipv4 p) z m h k = kind_below true p.transport z m h k
 settled_below (network.Ipv6 named p) z m h k = kind_below false p.transport z m h k
+settled_below other z m h k = k
 
 word_below : (s : List ℕ) (o : Option ℕ) → AreBytes s → word_or_zero s o < 65536
 word_below s None b = omega arith
@@ -188,10 +175,9 @@ either_even true a k h = refl
 either_even false a k h = h
 
 pub evens : (q : ℕ) (net : Network) → q % 2 ≡ 0 → IsEvenIn net → ((header_span q net).at % 2 ≡ 0) × ((address_span q net).at % 2 ≡ 0) × ((carried_span q net).at % 2 ≡ 0)
-evens q network.Plain h e = (refl, refl, refl)
-evens q network.Arp h e = (refl, refl, refl)
 evens q (network.Ipv4 p) h e = (h, either_even (without_addresses p.transport) (q + 12) 4 (omega arith), omega arith)
 evens q (network.Ipv6 named p) h e = (refl, either_even (without_addresses p.transport) (q + 8) 16 (omega arith), omega arith)
+evens q other h e = (refl, refl, refl)
 
 -- the same for a layout that is known to be that of the layers
 pub sums_even : (l : Layers) (y : Layout) (s t : List ℕ) → Stands l t → y ≡ layout_of l → AreEven (sums_of y s)

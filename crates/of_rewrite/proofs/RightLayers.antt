@@ -2,8 +2,8 @@
 use Rattle.std.proofs.Common.{◌≡◌, ◌≢◌, ℕ, zero, suc, ◌+◌, ◌-◌, ◌*◌, ◌/◌, ◌%◌, ◌^◌, ◌<◌, ◌≤◌, Bool, true, false, cond, List, [], ◌∷◌, ◌++◌, length, get_or, take, drop, sum, Option, Some, ◌⊎◌, inl, inr, refl, sym, ap, ◌∙◌, arith, subst, append_assoc, zero-add}
 use Rattle.std.specs.Prelude.{◌==◌, ◌&&◌, ◌||◌, not, nat_lt}
 use Rattle.std.proofs.{lemmas.List.length-append, lemmas.List.Sums.sum_by-cons, lemmas.List.Sums.sum_by-append, Math.Nat.mod-eq_of_lt, lemmas.Nat.pow_pos}
-use Rattle.of_layers.specs.declared.transport.Transport.TheVariants.{Nothing, Tcp, Udp, Icmpv4, Icmpv6}
-use Rattle.of_layers.specs.Layers.{Cell, Layers, Carried, Body, Plain, Arp, Ipv4, Ipv6, cells_in, byte_cells, cells, encoded, ipv4, ipv6, plain, items_of, size_of}
+use Rattle.of_layers.specs.declared.transport.Transport.TheVariants.{Nothing, Tcp, Udp}
+use Rattle.of_layers.specs.Layers.{Cell, Layers, Carried, Body, Plain, Ipv4, Ipv6, cells_in, byte_cells, cells, encoded, ipv4, ipv6, plain, items_of, size_of}
 use Rattle.of_layers.specs.{declared.place.Place.Place, declared.transport.Transport.Transport, Bits.bits, Fields.row_of, Looking.name_is, Looking.look_up, Looking.locate_at}
 use Rattle.of_layers.specs.WellFormed.{FitsItems, IsIpv4, IsLayers}
 use Rattle.of_headers.{specs.Places.width, specs.Places.network_of, specs.Places.layout_of, proofs.LocateLemmas.width-append, proofs.LocateLemmas.width_bytes, proofs.LocateLemmas.locate_front}
@@ -30,9 +30,7 @@ encoded_cut n f (c ∷ cs) =
 
 same_network : (n : ℕ) (f : ℕ → ℕ) (b : Body) → network_of (body_with n f b) ≡ network_of b
 same_network n f (Plain rest) = refl
-same_network n f (Arp ns rest) = refl
-same_network n f (Ipv4 ns o c rest) = refl
-same_network n f (Ipv6 ns es c rest) = refl
+same_network n f other = refl
 
 same_tags : (n : ℕ) (f : ℕ → ℕ) (ts : List (List ℕ)) → length (tags_with n f ts) ≡ length ts
 same_tags n f [] = refl
@@ -245,11 +243,8 @@ udp_step lack m c w a b x y small are f g some e h =
 
 kind_step : (lack : Bool) (t : Transport) (m c w : ℕ) (a b x y : List ℕ) → c < 65536 → AreWords (a ++ b) → length a ≡ length x → length b ≡ length y → 0 < m + sum (x ++ y) →
     w ≡ carried_updated lack t c (a ++ (c ∷ b)) (x ++ (c ∷ y)) → RightAt lack t m c a b → RightAt lack t m w x y
-kind_step lack Nothing m c w a b x y small are f g some e h = plain_step lack Nothing m c w a b x y refl small are f g some e h
-kind_step lack Tcp m c w a b x y small are f g some e h = plain_step lack Tcp m c w a b x y refl small are f g some e h
 kind_step lack Udp m c w a b x y small are f g some e h = udp_step lack m c w a b x y small are f g some e h
-kind_step lack Icmpv4 m c w a b x y small are f g some e h = plain_step lack Icmpv4 m c w a b x y refl small are f g some e h
-kind_step lack Icmpv6 m c w a b x y small are f g some e h = plain_step lack Icmpv6 m c w a b x y refl small are f g some e h
+kind_step lack other m c w a b x y small are f g some e h = plain_step lack other m c w a b x y refl small are f g some e h
 
 -- an updated checksum fits a word
 either_low : (t : Bool) (a b : ℕ) → a < 65536 → b < 65536 → cond t a b < 65536
@@ -260,11 +255,8 @@ never_low : (k : ℕ) → k < 65536 → never_zero k < 65536
 never_low k h = either_low (k == 0) 65535 k (omega arith) h
 
 kind_low : (lack : Bool) (t : Transport) (c : ℕ) (old new : List ℕ) → c < 65536 → carried_updated lack t c old new < 65536
-kind_low lack Nothing c old new h = let r : updated c old new ≤ 65535 = renewed_below c old new in omega arith
-kind_low lack Tcp c old new h = let r : updated c old new ≤ 65535 = renewed_below c old new in omega arith
 kind_low lack Udp c old new h = let r : updated c old new ≤ 65535 = renewed_below c old new in either_low ((lack && (c == 0)) || not (differ old new)) c (never_zero (updated c old new)) h (never_low (updated c old new) (omega arith))
-kind_low lack Icmpv4 c old new h = let r : updated c old new ≤ 65535 = renewed_below c old new in omega arith
-kind_low lack Icmpv6 c old new h = let r : updated c old new ≤ 65535 = renewed_below c old new in omega arith
+kind_low lack other c old new h = let r : updated c old new ≤ 65535 = renewed_below c old new in omega arith
 
 -- ---- one packet
 
@@ -343,16 +335,12 @@ unfolding row_of
 kinds_words lack Nothing ns ms p q k fn fm same long are rule = inl refl
 kinds_words lack Tcp ns ms p q k fn fm same long are rule = inr (packet_words lack Tcp ns ms p q k 8 1 fn fm refl refl same long are rule)
 kinds_words lack Udp ns ms p q k fn fm same long are rule = inr (packet_words lack Udp ns ms p q k 3 0 fn fm refl refl same long are rule)
-kinds_words lack Icmpv4 ns ms p q k fn fm same long are rule = inr (packet_words lack Icmpv4 ns ms p q k 1 0 fn fm refl refl same long are rule)
-kinds_words lack Icmpv6 ns ms p q k fn fm same long are rule = inr (packet_words lack Icmpv6 ns ms p q k 1 0 fn fm refl refl same long are rule)
+kinds_words lack other ns ms p q k fn fm same long are rule = inr (packet_words lack other ns ms p q k 1 0 fn fm refl refl same long are rule)
 
 -- what is carried and has no checksum has no words
 pub nothing_carried : (t : Transport) (ns ms p q : List ℕ) (k : ℕ → ℕ) → t ≡ Nothing → (t ≡ Nothing → p ≡ q) → q ++ words (change_at 103 k (cells_in (items_of t) ms)) ≡ p ++ words (cells_in (items_of t) ns)
 nothing_carried Nothing ns ms p q k is none = ap (λ (z : List ℕ). z ++ words []) (sym (none refl))
-nothing_carried Tcp ns ms p q k is none = absurd cc
-nothing_carried Udp ns ms p q k is none = absurd cc
-nothing_carried Icmpv4 ns ms p q k is none = absurd cc
-nothing_carried Icmpv6 ns ms p q k is none = absurd cc
+nothing_carried other ns ms p q k is none = absurd cc
 
 pub never_left_out : (t : Transport) (o o' : Option ℕ) → t ≡ Nothing → is_left_out t o ≡ is_left_out t o'
 never_left_out t o o' is = (λ j. is_left_out (is j) o) ∙ sym (λ j. is_left_out (is j) o')
@@ -388,10 +376,9 @@ either_absent true k cs h = refl
 either_absent false k cs h = h
 
 addresses_absent : (k : ℕ) (b : Body) → nat_lt k 100 ≡ false → has k (address_cover b) ≡ false
-addresses_absent k (Plain rest) e = refl
-addresses_absent k (Arp ns rest) e = refl
 addresses_absent k (Ipv4 ns o c rest) e = either_absent (without_addresses c.kind) k (drop 11 (cells_in ipv4 ns)) (ipv4_addresses k ns e)
 addresses_absent k (Ipv6 ns es c rest) e = either_absent (without_addresses c.kind) k (drop 7 (cells_in (ipv6 (plain 8)) ns)) (ipv6_addresses k ns e)
+addresses_absent k other e = refl
 
 pub addresses_kept : (k : ℕ) (f : ℕ → ℕ) (b : Body) → nat_lt k 100 ≡ false → words (change_at k f (address_cover b)) ≡ words (address_cover b)
 addresses_kept k f b e = ap words (change_none_in k f (address_cover b) (addresses_absent k b e))

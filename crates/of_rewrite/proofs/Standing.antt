@@ -1,7 +1,7 @@
 -- The places of the checksums and the TTL of a frame, that its layers are in it, and that its numbers are in whole words.
 use Rattle.std.proofs.Common.{◌≡◌, ℕ, ◌+◌, ◌*◌, ◌/◌, ◌%◌, ◌≤◌, List, [], ◌∷◌, ◌++◌, length, Option, Some, None, refl, sym, ap, ◌∙◌, arith, slice_index}
 use Rattle.std.{specs.Option.option_or, proofs.lemmas.List.length-append}
-use Rattle.of_layers.specs.declared.transport.Transport.TheVariants.{Nothing, Tcp, Udp, Icmpv4, Icmpv6}
+use Rattle.of_layers.specs.declared.transport.Transport.TheVariants.{Nothing}
 use Rattle.of_layers.specs.Layers.{Cell, Layers, Carried, Extension, Body, Plain, Arp, Ipv4, Ipv6, cells_in, byte_cells, tag_cells, extension_cells, carried_cells, body_cells, cells, encoded, addresses, outer_tag, inner_tag, ether_type, arp, ipv4, ipv6, items_of, size_of, all_bytes, next_before, ttl, header_checksum, checksum}
 use Rattle.of_layers.specs.{declared.place.Place.Place, declared.transport.Transport.Transport, Fields.row_of, Bits.bits, Bits.bits_of, Looking.locate_at}
 use Rattle.of_layers.{specs.WellFormed.FitsItems, specs.WellFormed.IsBody, specs.WellFormed.IsLayers, proofs.BitLemmas.length-bits, proofs.BitLemmas.length-bits_of}
@@ -109,10 +109,7 @@ ipv6_carried at m (x ∷ es) e = rw e refl
 items_carried : (at q : ℕ) (k : Transport) → at ≡ 8 * q → placed at 103 (items_of k) ≡ number_place 16 (moved q (checksum_byte k))
 unfolding row_of
 items_carried at q Nothing e = refl
-items_carried at q Tcp e = place_is _ _ 16 (omega arith)
-items_carried at q Udp e = place_is _ _ 16 (omega arith)
-items_carried at q Icmpv4 e = place_is _ _ 16 (omega arith)
-items_carried at q Icmpv6 e = place_is _ _ 16 (omega arith)
+items_carried at q other e = place_is _ _ 16 (omega arith)
 
 carried_body : (type : ℕ) (b : Body) (at q : ℕ) → IsBody type b → at ≡ 8 * q → locate_at at 103 (body_cells b) ≡ number_place 16 (carried_at q (network_of b))
 unfolding row_of
@@ -143,23 +140,20 @@ sound_body type (Ipv4 ns o c rest) h = (ipv4_stands ns o c rest 102 h.1).is_soun
 sound_body type (Ipv6 ns es c rest) h = (ipv6_stands ns es c rest 102 no_header h.1).is_sound
 
 room_body : (type : ℕ) (b : Body) (n q : ℕ) → IsBody type b → 8 * n ≡ 8 * q + width (body_cells b) → HasRoomIn n q (network_of b)
-room_body type (Plain rest) n q h e = tt
-room_body type (Arp ns rest) n q h e = tt
 room_body type (Ipv4 ns o c rest) n q h e = let s = ipv4_stands ns o c rest 102 h.1 in let w = s.is_wide in (omega arith, omega (arith, w))
 room_body type (Ipv6 ns es c rest) n q h e = let s = ipv6_stands ns es c rest 102 no_header h.1 in let w = s.is_wide in (omega arith, omega (arith, w))
+room_body type other n q h e = tt
 
 -- where the headers begin is even
 abbrev pub IsEvenIn : Network → Type 0
-IsEvenIn network.Plain = Unit {0}
-IsEvenIn network.Arp = Unit {0}
 IsEvenIn (network.Ipv4 p) = p.at % 2 ≡ 0
 IsEvenIn (network.Ipv6 named p) = p.at % 2 ≡ 0
+IsEvenIn other = Unit {0}
 
 even_body : (type : ℕ) (b : Body) → IsBody type b → IsEvenIn (network_of b)
-even_body type (Plain rest) h = tt
-even_body type (Arp ns rest) h = tt
 even_body type (Ipv4 ns o c rest) h = let w = h.1.words in omega (arith, w)
 even_body type (Ipv6 ns es c rest) h = let s = ipv6_stands ns es c rest 102 no_header h.1 in let w = s.even in omega (arith, w)
+even_body type other h = tt
 
 pub length_encoded : (cs : List Cell) → length (encoded cs) ≡ width cs
 length_encoded [] = refl

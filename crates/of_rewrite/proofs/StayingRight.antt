@@ -1,7 +1,7 @@
 -- Checksums of a frame that were right stay so where a number is replaced.
 use Rattle.std.proofs.Common.{◌≡◌, ℕ, ◌<◌, ◌≤◌, Bool, true, false, cond, List, [], ◌++◌, length, drop, sum, ◌⊎◌, refl, sym, ap, ◌∙◌, arith}
 use Rattle.std.specs.Prelude.{◌&&◌, ◌||◌}
-use Rattle.of_layers.specs.Layers.{Item, Cell, Layers, Carried, Extension, Body, Plain, Arp, Ipv4, Ipv6, cells_in, byte_cells, ipv4, ipv6, plain, items_of}
+use Rattle.of_layers.specs.Layers.{Item, Cell, Layers, Carried, Extension, Body, Ipv4, Ipv6, cells_in, byte_cells, ipv4, ipv6, plain, items_of}
 use Rattle.of_layers.specs.{declared.transport.Transport.Transport, declared.transport.Transport.TheVariants.Nothing, Fields.row_of, Looking.look_up, Reading.layers_of}
 use Rattle.of_layers.{specs.WellFormed.AreBytes, specs.WellFormed.FitsItems, specs.WellFormed.IsIpv4, specs.WellFormed.IsLayers, proofs.FrameLemmas.are_layers}
 use Rattle.of_rewrite.specs.Rewriting.{change_at, replace_at, words, without_addresses, header_cover, address_cover, carried_cover, header_updated, carried_after}
@@ -71,12 +71,10 @@ header_set ends tags type ns o c rest n v h free leaves =
     }
 
 header_stays : (ends : List ℕ) (tags : List (List ℕ)) (type : ℕ) (b : Body) (n v : ℕ) → IsLayers (frame_with ends tags type b) → Replaceable n → LeavesLayers n → header_is_right b ≡ true → header_is_right (body_set n v b) ≡ true
-header_stays ends tags type (Plain rest) n v h free leaves r = r
-header_stays ends tags type (Arp ns rest) n v h free leaves r = r
-header_stays ends tags type (Ipv6 ns es c rest) n v h free leaves r = r
 header_stays ends tags type (Ipv4 ns o c rest) n v h free leaves r =
     let s : HeaderSet n v ns o c rest = header_set ends tags type ns o c rest n v h free leaves in
     ap sums_to_ones s.set ∙ header_step (numbers_with n (λ x. v) ipv4 ns) o (carried_with n (λ x. v) c) rest (header_updated (Ipv4 ns o c rest) n v) (cells_in ipv4 ns ++ byte_cells o) s.well_formed s.are r
+header_stays ends tags type other n v h free leaves r = r
 
 -- ---- what is carried
 
@@ -136,14 +134,13 @@ stays lack c a n v g k p q more s some r =
     kinds_step lack c.kind c.numbers (numbers_with n (λ x. v) (items_of c.kind) c.numbers) (words a) (words (replace_at n v a)) more k s.none some s.are r
 
 carried_stays : (ends : List ℕ) (tags : List (List ℕ)) (type : ℕ) (b : Body) (n v : ℕ) → IsLayers (frame_with ends tags type b) → Replaceable n → LeavesLayers n → (more : List ℕ) → 0 < sum more → carried_is_right more b ≡ true → carried_is_right more (body_set n v b) ≡ true
-carried_stays ends tags type (Plain rest) n v h free leaves more some r = r
-carried_stays ends tags type (Arp ns rest) n v h free leaves more some r = r
 carried_stays ends tags type (Ipv4 ns o c rest) n v h free leaves more some r =
     let b : Body = Ipv4 ns o c rest in
     stays true c (address_cover b) n v (header_updated b n v) (carried_after b n v) (words (address_cover (body_set n v b))) (words (carried_cover (body_set n v b))) more (carried_set_4 ends tags type ns o c rest n v h free leaves) some r
 carried_stays ends tags type (Ipv6 ns es c rest) n v h free leaves more some r =
     let b : Body = Ipv6 ns es c rest in
     stays false c (address_cover b) n v (header_updated b n v) (carried_after b n v) (words (address_cover (body_set n v b))) (words (carried_cover (body_set n v b))) more (carried_set_6 ends tags type ns es c rest n v h free leaves) some r
+carried_stays ends tags type other n v h free leaves more some r = r
 
 -- ---- frames
 

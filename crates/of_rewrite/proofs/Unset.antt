@@ -1,7 +1,7 @@
 -- Numbers that do not occur, and numbers of one byte.
 use Rattle.std.proofs.Common.{◌≡◌, ℕ, ◌+◌, ◌*◌, ◌/◌, ◌^◌, ◌<◌, ◌≤◌, Bool, true, false, cond, List, [], ◌∷◌, ◌++◌, length, take, drop, get_or, Option, Some, None, refl, sym, ap, ◌∙◌, arith}
 use Rattle.std.{specs.Prelude.◌==◌, specs.Prelude.◌&&◌, specs.Prelude.◌||◌, proofs.lemmas.List.take-append-drop, proofs.lemmas.List.length-take-le}
-use Rattle.of_layers.specs.declared.transport.Transport.TheVariants.{Nothing, Tcp, Udp, Icmpv4, Icmpv6}
+use Rattle.of_layers.specs.declared.transport.Transport.TheVariants.{Udp}
 use Rattle.of_layers.specs.Layers.{Cell, Layers, cells, encoded, size_of, ttl}
 use Rattle.of_layers.specs.{declared.place.Place.Place, declared.transport.Transport.Transport, Bits.bits, Bits.bits_of, Reading.layers_of, WellFormed.AreBytes}
 use Rattle.of_layers.specs.{Looking.name_is, Looking.look_up, Looking.locate_at, declared.field.Field.Field, Fields.number_of}
@@ -28,17 +28,13 @@ or_true true = refl
 or_true false = refl
 
 kind_same : (t : Bool) (k : Transport) (x : ℕ) (a : List ℕ) → x ≤ 65535 → carried_updated t k x a a ≡ x
-kind_same t Nothing x a h = renewed_same x a h
-kind_same t Tcp x a h = renewed_same x a h
 kind_same t Udp x a h = rw (differ_none a, or_true (t && (x == 0))) refl
-kind_same t Icmpv4 x a h = renewed_same x a h
-kind_same t Icmpv6 x a h = renewed_same x a h
+kind_same t other x a h = renewed_same x a h
 
 rule_same : (net : Network) (x : ℕ) (a : List ℕ) → x ≤ 65535 → carried_rule net x a a ≡ x
-rule_same network.Plain x a h = renewed_same x a h
-rule_same network.Arp x a h = renewed_same x a h
 rule_same (network.Ipv4 p) x a h = kind_same true p.transport x a h
 rule_same (network.Ipv6 named p) x a h = kind_same false p.transport x a h
+rule_same other x a h = renewed_same x a h
 
 -- without a number of that name all cells stay
 pub unset : (n v : ℕ) (l : Layers) (s : List ℕ) → Stands l s → locate_at 0 n (cells l) ≡ None → set_in_place n v l ≡ cells l
@@ -77,10 +73,9 @@ frame_stands s b h = stands (layers_of s) s (are_layers s b h) (frame_encoded s 
 
 -- the byte of the TTL is in the frame
 pub ttl_room : (n q : ℕ) (net : Network) (at : ℕ) → HasRoomIn n q net → ttl_at q net ≡ Some at → at < n
-ttl_room n q network.Plain at h e = absurd cc
-ttl_room n q network.Arp at h e = absurd cc
 ttl_room n q (network.Ipv4 p) at h e = let f : q + 8 ≡ at = cc in let a : 20 ≤ p.at = h.0 in let b : q + p.at + size_of p.transport ≤ n = h.1 in omega arith
 ttl_room n q (network.Ipv6 named p) at h e = let f : q + 7 ≡ at = cc in let a : 40 ≤ p.at = h.0 in let b : q + p.at + size_of p.transport ≤ n = h.1 in omega arith
+ttl_room n q other at h e = absurd cc
 
 pub record TtlIs (s : List ℕ) (at : ℕ) : Type 0 where
   pub inside : at < length s

@@ -3,7 +3,7 @@ use Rattle.std.proofs.Common.{◌≡◌, ◌⊎◌, inl, inr, ℕ, suc, zero, Bo
 use Rattle.std.{specs.Prelude.OnErr, specs.Prelude.slice_get, specs.List.flat_map, specs.declared.alloc.AllocError.AllocError, proofs.lemmas.List.append-nil, proofs.lemmas.Grind.flat_map-append}
 use Rattle.of_session.specs.Session.{is_disconnected}
 use Rattle.of_datapath.specs.declared.effect.Effect.{Effect}
-use Rattle.of_switch.specs.declared.event.Event.TheVariants.{Connect, Lost, Chunk, Frame, Moment, Ports}
+use Rattle.of_switch.specs.declared.event.Event.TheVariants.{Chunk}
 use Rattle.of_switch.specs.Runs.{Report, IsInterrupted, StopsWithin, behind_effects, then_more, drain, drained, come, happened, run, unless_refusal}
 use Rattle.of_switch.specs.{declared.event.Event.Event, declared.switch_error.SwitchError.SwitchError}
 use Rattle.of_switch.specs.{declared.switch_error.SwitchError.TheVariants.NoMemory, declared.switch_error.SwitchError.TheVariants.NotConnected, State.State}
@@ -248,12 +248,8 @@ on_err (Err e) P p = p
 -- AN EVENT OF ONE STEP
 
 whole_step : (e : Event) (s : State) → is_one_step e ≡ true → (partly 1 e s).state ≡ (happened e s).state
-whole_step Connect s is = refl
-whole_step Lost s is = refl
 whole_step (Chunk bytes) s is = absurd cc
-whole_step (Frame port bytes) s is = refl
-whole_step (Moment nanos) s is = refl
-whole_step (Ports change) s is = refl
+whole_step other s is = refl
 
 stopped_in : (first : List Event) (e event : Event) (others : List Event) (s t : State) (more : List Report) → e ∷ [] ≡ first ++ event ∷ others → IsInterrupted event (run first s).state t more
     → is_one_step e ≡ true → t ≡ s

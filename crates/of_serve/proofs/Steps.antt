@@ -419,9 +419,8 @@ serves_nothing turns s t = record { ts = NoTurns; are = tt; ends = inr (refl, re
 
 pub counts_on : (h : Halt) (n n' turns counter : ℕ) → n ≡ counter → counter < turns → Counts (Err h) n n' → n' ≤ turns
 counts_on (Bad k) n n' turns counter e lt c = absurd c
-counts_on Memory n n' turns counter e lt c = omega (arith, e, lt, c.1)
 counts_on ReadHalt n n' turns counter e lt c = omega (arith, e, lt, c)
-counts_on Write n n' turns counter e lt c = omega (arith, e, lt, c.1)
+counts_on other n n' turns counter e lt c = omega (arith, e, lt, c.1)
 
 pub fails_from : (h : Halt) (n n' : ℕ) → n ≡ 0 → CountsAcceptFailure (Err h) n n' → CountsAcceptFailure (Err h) 0 n'
 fails_from h n n' e f = subst (λ (k : ℕ). CountsAcceptFailure (Err h) k n') e f

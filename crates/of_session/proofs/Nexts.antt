@@ -7,17 +7,16 @@ use Rattle.of_session.specs.declared.session.Next.TheVariants.{Nothing, BadStrea
 use Rattle.of_session.specs.Stream.{First, Whole, Bad, Partial, beginning_of, length_of, IsWholeMessage}
 use Rattle.of_session.specs.Session.{Connection, is_disconnected, with_received, is_first_hello, read_as, judged, next_by_beginning, next_of_connection}
 use Rattle.of_session.proofs.Fronts.{Looks, looks, length_of-append, message_front, malformed_front}
-use Rattle.of_session.specs.{declared.session.Phase.Phase, declared.session.Phase.TheVariants.Disconnected, declared.session.Phase.TheVariants.Greeting, declared.session.Phase.TheVariants.Open}
+use Rattle.of_session.specs.{declared.session.Phase.Phase, declared.session.Phase.TheVariants.Open}
 use Rattle.of_session.{specs.declared.session.Next.Next, proofs.Splitting.front_message}
 
 -- a message that comes next has a header and was received whole; so was a malformed header
 abbrev pub IsSizedIn : Next → List ℕ → Type 0
 IsSizedIn Nothing bytes = Unit {0}
-IsSizedIn (BadStream xid) bytes = 8 ≤ length bytes
-IsSizedIn (NotHello xid) bytes = 8 ≤ length bytes
 IsSizedIn (Opened size) bytes = (8 ≤ size) × (size ≤ length bytes)
 IsSizedIn (Read xid size message) bytes = (8 ≤ size) × (size ≤ length bytes)
 IsSizedIn (Refused xid size code) bytes = (8 ≤ size) × (size ≤ length bytes)
+IsSizedIn other bytes = 8 ≤ length bytes
 
 greeted_by : (m bytes : List ℕ) (t : Bool) → 8 ≤ length m → length m ≤ length bytes → IsSizedIn (cond t (Opened (length m)) (NotHello (xid_of m))) bytes
 greeted_by m bytes true low high = (low, high)
@@ -28,9 +27,8 @@ read_by m bytes (Ok message) low high = (low, high)
 read_by m bytes (Err code) low high = (low, high)
 
 judged_sized : (role : Role) (phase : Phase) (m bytes : List ℕ) → 8 ≤ length m → length m ≤ length bytes → IsSizedIn (judged role phase m) bytes
-judged_sized role Disconnected m bytes low high = greeted_by m bytes (is_first_hello m) low high
-judged_sized role Greeting m bytes low high = greeted_by m bytes (is_first_hello m) low high
 judged_sized role Open m bytes low high = read_by m bytes (message_from role m) low high
+judged_sized role other m bytes low high = greeted_by m bytes (is_first_hello m) low high
 
 by_front : (role : Role) (c : Connection) (f : First) → Looks c.pending f → IsSizedIn (next_by_beginning role c f) c.pending
 by_front role c Partial look = tt
@@ -49,11 +47,7 @@ next_sized role c = by_phase role c (is_disconnected c.phase)
 -- something comes next
 abbrev pub IsSomething : Next → Type 0
 IsSomething Nothing = ⊥
-IsSomething (BadStream xid) = Unit {0}
-IsSomething (NotHello xid) = Unit {0}
-IsSomething (Opened size) = Unit {0}
-IsSomething (Read xid size message) = Unit {0}
-IsSomething (Refused xid size code) = Unit {0}
+IsSomething other = Unit {0}
 
 front_more : (role : Role) (c : Connection) (q : List ℕ) (f : First) → Looks c.pending f → IsSomething (next_by_beginning role c f) → next_by_beginning role (with_received q c) (beginning_of (c.pending ++ q)) ≡ next_by_beginning role c f
 front_more role c q Partial look some = absurd some

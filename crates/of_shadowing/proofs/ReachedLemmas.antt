@@ -1,7 +1,7 @@
 -- Tables that are reached from those that are not among the rest.
-use Rattle.std.proofs.Common.{◌≡◌, ℕ, ◌+◌, ◌<◌, ◌≤◌, ◌≢◌, Bool, true, false, cond, List, [], ◌∷◌, ◌++◌, length, Option, Some, None, refl, sym, ap, subst, ◌∙◌, arith, inl, inr, eqb-true, eq-eqb}
+use Rattle.std.proofs.Common.{◌≡◌, ℕ, ◌+◌, ◌<◌, ◌≤◌, Bool, true, false, cond, List, [], ◌∷◌, ◌++◌, length, Some, None, refl, sym, ap, subst, ◌∙◌, arith, inl, inr, eqb-true, eq-eqb}
 use Rattle.std.specs.Prelude.{◌⊎◌, ◌↔◌, ◌&&◌, ◌||◌, ◌==◌, not, filter, find}
-use Rattle.std.{specs.List.fold, specs.List.list_any, proofs.lemmas.Grind.common_steps}
+use Rattle.std.specs.List.{fold}
 use Rattle.of_shadowing.specs.Reached.{First, IsTableReached, Later, has_flow, is_table_among, is_led_from_others, later_tables, leads_from_others, leads_from_to, with_table_of}
 use Rattle.of_shadowing.specs.declared.listed_flow.ListedFlow.{ListedFlow}
 

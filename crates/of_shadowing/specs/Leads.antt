@@ -3,7 +3,7 @@ use Rattle.std.specs.Prelude.{ℕ, ◌==◌, ◌&&◌, ◌||◌, Bool, true, fal
 use Rattle.std.specs.{List.fold, Str.str_eq_ignore_ascii_case}
 use Rattle.of_ovs_words.specs.{Numbers.number_in, Words.is_gap, Words.word_name, Words.word_value}
 use Rattle.of_shadowing.specs.{declared.leads.Next.Next, declared.leads.Next.TheVariants.Name, declared.leads.Next.TheVariants.Port, declared.leads.Next.TheVariants.Table}
-use Rattle.of_shadowing.specs.{declared.leads.Leads.Leads as Declared, declared.leads.Scan.Scan as DeclaredScan}
+use Rattle.of_shadowing.specs.declared.leads.Scan.{Scan as DeclaredScan}
 
 -- the text is read piece by piece
 pub record Scan : Type 0 where

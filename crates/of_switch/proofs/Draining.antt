@@ -1,7 +1,7 @@
 -- Messages, until there is none.
 use Rattle.std.proofs.Common.{◌≡◌, ℕ, ◌+◌, ◌<◌, ◌≤◌, suc, zero, List, [], ◌++◌, length, drop, Option, Some, None, refl, sym, ◌∙◌, ap, subst, arith, append_assoc, length-drop}
 use Rattle.std.proofs.{lemmas.List.append-nil, lemmas.Option.same_Some}
-use Rattle.of_session.specs.declared.session.Next.TheVariants.{Nothing, BadStream, NotHello, Opened, Read, Refused}
+use Rattle.of_session.specs.declared.session.Next.TheVariants.{Nothing, Opened, Read, Refused}
 use Rattle.of_session.{specs.declared.session.Next.Next, proofs.Nexts.IsSizedIn, proofs.Nexts.next_sized}
 use Rattle.of_datapath.specs.declared.effect.Effect.{Effect}
 use Rattle.of_switch.specs.Steps.{Outcome, gives, coming, next_by, next_of}
@@ -24,11 +24,10 @@ closed_short s o p same e some =
 
 shorter_by : (n : Next) (s : State) (o : Outcome) → IsSizedIn n s.connection.pending → next_by n s ≡ Some o → left o < length s.connection.pending
 shorter_by Nothing s o sized h = absurd cc
-shorter_by (BadStream xid) s o sized h = closed_short s o _ (same_Some _ _ h) refl sized
-shorter_by (NotHello xid) s o sized h = closed_short s o _ (same_Some _ _ h) refl sized
 shorter_by (Opened size) s o sized h = taken_short size s o _ (same_Some _ _ h) refl sized.0 sized.1
 shorter_by (Refused xid size code) s o sized h = taken_short size s o _ (same_Some _ _ h) refl sized.0 sized.1
 shorter_by (Read xid size m) s o sized h = taken_short size s o _ (same_Some _ _ h) refl sized.0 sized.1
+shorter_by other s o sized h = closed_short s o _ (same_Some _ _ h) refl sized
 
 -- a message has some bytes
 pub next_shorter : (s : State) (o : Outcome) → next_of s ≡ Some o → length o.state.connection.pending < length s.connection.pending

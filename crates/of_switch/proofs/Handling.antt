@@ -2,7 +2,7 @@
 use Rattle.std.proofs.Common.{◌≡◌, ℕ, List, [], ◌∷◌, Option, Some, None, ◌∙◌, ap, sym, refl}
 use Rattle.of_wire.specs.{declared.code.Code.Code, Refusals.first_of}
 use Rattle.of_messages.specs.{declared.message.Message.Message, Written.error_bytes}
-use Rattle.of_session.specs.declared.session.Next.TheVariants.{Nothing, BadStream, NotHello, Opened, Read, Refused}
+use Rattle.of_session.specs.declared.session.Next.TheVariants.{Read, Refused}
 use Rattle.of_session.specs.{declared.session.Next.Next, Session.message_taken}
 use Rattle.of_datapath.specs.{declared.effect.Effect.Effect, declared.effect.Effect.TheVariants.Answer}
 use Rattle.of_switch.specs.Steps.{does, done, state_refusals, refused, unless_refused, handled, gives, failed_of, coming, next_by, IsRefusedWith}
@@ -23,12 +23,9 @@ abbrev Answers : Next → State → ℕ → ℕ → Code → Type 0
 Answers n s xid size code = next_by n s ≡ Some (gives (Answer (error_bytes xid code (failed_of size s.connection)) ∷ []) (record s { connection = message_taken size s.connection }))
 
 refused_by : (n : Next) (s : State) (xid size : ℕ) (code : Code) → IsRefusedWith n s.core xid size code → Answers n s xid size code
-refused_by Nothing s xid size code h = absurd h
-refused_by (BadStream x) s xid size code h = absurd h
-refused_by (NotHello x) s xid size code h = absurd h
-refused_by (Opened n) s xid size code h = absurd h
 refused_by (Refused x n c) s xid size code h = rw (h.0, h.1, h.2) refl
 refused_by (Read x n m) s xid size code h = rw (h.0, h.1, handled_refused xid m (failed_of size s.connection) s.core code h.2) refl
+refused_by other s xid size code h = absurd h
 
 pub refused_alone : (s : State) (xid size : ℕ) (code : Code) → IsRefusedWith (coming s) s.core xid size code → Answers (coming s) s xid size code
 refused_alone s xid size code h = refused_by (coming s) s xid size code h

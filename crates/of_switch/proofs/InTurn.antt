@@ -4,7 +4,7 @@ use Rattle.std.{specs.Prelude.Result, specs.Prelude.Ok, specs.Prelude.Err, specs
 use Rattle.of_session.specs.declared.session.Next.TheVariants.{Nothing, BadStream, NotHello, Opened, Read, Refused}
 use Rattle.of_session.specs.Stream.{First, Whole, Bad, Partial, beginning_of, IsWholeMessage, IsMalformed, IsPartial, concat, AreMessages, Splits}
 use Rattle.of_session.specs.Session.{is_disconnected, is_first_hello, read_as, judged, next_by_beginning as next_at, IsNextSized}
-use Rattle.of_session.specs.{declared.session.Phase.Phase, declared.session.Phase.TheVariants.Disconnected, declared.session.Phase.TheVariants.Greeting, declared.session.Phase.TheVariants.Open}
+use Rattle.of_session.specs.{declared.session.Phase.Phase, declared.session.Phase.TheVariants.Open}
 use Rattle.of_session.{specs.declared.session.Next.Next, proofs.Fronts.message_front, proofs.Fronts.malformed_front, proofs.Fronts.partial_front}
 use Rattle.of_messages.specs.{declared.message.Message.Message, declared.role.Role.Role, Heads.xid_of, Messages.message_from}
 use Rattle.of_wire.specs.declared.code.Code.{Code}
@@ -23,9 +23,8 @@ read_size m (Ok message) = refl
 read_size m (Err code) = refl
 
 judged_size : (role : Role) (phase : Phase) (m : List ℕ) → IsNextSized (judged role phase m) (length m)
-judged_size role Disconnected m = greeted_size m (is_first_hello m)
-judged_size role Greeting m = greeted_size m (is_first_hello m)
 judged_size role Open m = read_size m (message_from role m)
+judged_size role other m = greeted_size m (is_first_hello m)
 
 -- the outcome of a message that came alone, which leaves nothing
 abbrev Alone : Next → State → Type 0
@@ -35,12 +34,11 @@ nothing_more : (size : ℕ) (m : List ℕ) → size ≡ length m → drop size m
 nothing_more size m e = drop_all size m (omega (arith, e))
 
 alone_by : (n : Next) (m : List ℕ) (s : State) → IsNextSized n (length m) → Alone n (holding m s)
-alone_by Nothing m s h = absurd h
-alone_by (BadStream xid) m s h = absurd h
 alone_by (NotHello xid) m s h = (_, refl, refl)
 alone_by (Opened size) m s h = (_, refl, nothing_more size m h)
 alone_by (Read xid size message) m s h = (_, refl, nothing_more size m h)
 alone_by (Refused xid size code) m s h = (_, refl, nothing_more size m h)
+alone_by other m s h = absurd h
 
 -- what comes next of bytes that a connection has alone
 next_held : (f : First) (bytes : List ℕ) (s : State) → is_disconnected s.connection.phase ≡ false → beginning_of bytes ≡ f → coming (holding bytes s) ≡ next_at s.core.control.role (holding bytes s).connection f

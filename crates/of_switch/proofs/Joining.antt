@@ -60,11 +60,7 @@ more_by (Read xid size m) s q o open_ sized h =
 
 something : (n : Next) (s : State) (o : Outcome) → next_by n s ≡ Some o → IsSomething n
 something Nothing s o h = absurd cc
-something (BadStream xid) s o h = tt
-something (NotHello xid) s o h = tt
-something (Opened size) s o h = tt
-something (Read xid size m) s o h = tt
-something (Refused xid size code) s o h = tt
+something other s o h = tt
 
 -- one message does the same whatever follows it
 pub step_more : (s : State) (q : List ℕ) (o : Outcome) → is_disconnected s.connection.phase ≡ false → next_of s ≡ Some o → next_of (fed q s) ≡ Some (gives o.effects (come q o.state))

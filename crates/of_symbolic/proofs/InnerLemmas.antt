@@ -15,7 +15,7 @@ use Rattle.of_symbolic.proofs.Holding.{Holds, IsVid, Says, field_holds, holds_sa
 use Rattle.of_symbolic.specs.declared.asking.Asked.{Asked}
 use Rattle.of_symbolic.specs.declared.asking.Asked.TheVariants.{Never, Open, Nothing, Asks}
 use Rattle.of_symbolic.specs.{declared.overlay.Overlay.Overlay, declared.overlay.PushedTag.PushedTag, declared.overlay.ReceivedTag.ReceivedTag, declared.overlay.TagNumber.TagNumber}
-use Rattle.of_symbolic.specs.declared.overlay.TagNumber.TheVariants.{Value, Received, IfTagged, Unknown}
+use Rattle.of_symbolic.specs.declared.overlay.TagNumber.TheVariants.{Received, Unknown}
 use Rattle.of_symbolic.specs.{InnerTags.description_of_view, InnerTags.inner_told, InnerTags.number_of_tag, Overlays.Shows, Overlays.tags_in, Overlays.with_value, Tags.is_inner, Tags.tags_from}
 use Rattle.of_symbolic.proofs.{Keeping.KeptIfAsked, Keeping.field_kept, Keeping.pcp_kept, Keeping.vid_kept, VidBits.present_bit}
 
@@ -37,10 +37,9 @@ tagged_of true false rest h = h
 tagged_of false u rest h = tt
 
 pushed_vid_of : (k : TagNumber) (e : MatchField) → IsOfTag (pushed_vid k e)
-pushed_vid_of (Value n) e = by_tag_of _ _
-pushed_vid_of (IfTagged n) e = by_tag_of _ _
 pushed_vid_of Received e = tagged_of _ _ (Asks (vid_bits e)) (inl refl)
 pushed_vid_of Unknown e = tagged_of _ _ Open tt
+pushed_vid_of other e = by_tag_of _ _
 
 own_vid_of : (k : Option ℕ) (e : MatchField) → e.field ≡ VlanVid → IsOfTag (own_vid k e)
 own_vid_of None e at = inl at
@@ -52,14 +51,13 @@ vid_of None (Some own) e at = own_vid_of own.vid e at
 vid_of None None e at = tt
 
 pushed_pcp_of : (tagged : Bool) (k : TagNumber) (e : MatchField) → e.field ≡ VlanPcp → IsOfTag (pushed_pcp tagged k e)
-pushed_pcp_of tagged (Value n) e at = by_tag_of _ _
-pushed_pcp_of tagged (IfTagged n) e at = by_tag_of _ _
 pushed_pcp_of tagged Received e at = by_test (eqb e.value 0 && not tagged)
   where
     by_test : (b : Bool) → IsOfTag (cond b Open (Asks e))
     by_test true = tt
     by_test false = inr at
 pushed_pcp_of tagged Unknown e at = tt
+pushed_pcp_of tagged other e at = by_tag_of _ _
 
 own_pcp_of : (k : Option ℕ) (e : MatchField) → e.field ≡ VlanPcp → IsOfTag (own_pcp k e)
 own_pcp_of None e at = inr at
@@ -153,10 +151,9 @@ inner_at VlanPcp x = refl
 inner_at f x = refl
 
 inner_holds : (a : Asked) (b : Bool) (t : Option Tag) (map : Field → Option ℕ) → map Metadata ≡ Some (number_of_tag t) → IfSome t (λ t. t.vid < 2 ^ 12) → KeptIfAsked a → IsOfTag a → Holds a b (tag_map t) → Holds (asked_of_tag true a) b map
-inner_holds Never b t map told h kept of i = i
 inner_holds Open b t map told h kept of i = tt
-inner_holds Nothing b t map told h kept of i = i
 inner_holds (Asks x) b t map told h kept of i = i ∙ inner_agrees x t kept of h ∙ sym (ap (agrees (inner_field x.field x)) (ap map (inner_at x.field x) ∙ told))
+inner_holds other b t map told h kept of i = i
 
 -- ---- conditions on METADATA
 

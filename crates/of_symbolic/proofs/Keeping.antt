@@ -32,10 +32,8 @@ kept_vid e h at = record { at = at; bits = omega (arith, bits_most e.field e.val
 -- ---- fields in normal form
 
 abbrev pub KeptIfAsked : Asked → Type 0
-KeptIfAsked Never = ⊤
-KeptIfAsked Open = ⊤
-KeptIfAsked Nothing = ⊤
 KeptIfAsked (Asks x) = IsCondition x
+KeptIfAsked other = ⊤
 
 with_kept : IsKept with_tag
 unfolding row_of
@@ -103,10 +101,9 @@ pcp_kept tagged (Some p) own e h = by_number p.pcp
     by_test false = kept_condition e h
 
     by_number : (k : TagNumber) → KeptIfAsked (pushed_pcp tagged k e)
-    by_number (Value n) = by_tag_kept _ _
-    by_number (IfTagged n) = by_tag_kept _ _
     by_number Received = by_test (eqb e.value 0 && not tagged)
     by_number Unknown = tt
+    by_number other = by_tag_kept _ _
 pcp_kept tagged None (Some own) e h = by_number own.pcp
   where
     by_number : (k : Option ℕ) → KeptIfAsked (own_pcp k e)
@@ -141,10 +138,9 @@ tagged_closed x true false h = cc
 tagged_closed x false u h = cc
 
 pushed_vid_open : (k : TagNumber) (e : MatchField) → pushed_vid k e ≡ Open → (not (is_number_known k) && not (eqb (bits_looked_at e % 4096) 0)) ≡ true
-pushed_vid_open (Value n) e h = absurd (by_tag_closed _ _ h)
-pushed_vid_open (IfTagged n) e h = absurd (by_tag_closed _ _ h)
 pushed_vid_open Received e h = absurd (tagged_closed (vid_bits e) (eqb (bits_looked_at e / 4096) (e.value / 4096)) (eqb (bits_looked_at e % 4096) 0) h)
 pushed_vid_open Unknown e h = tagged_open (eqb (bits_looked_at e / 4096) (e.value / 4096)) (eqb (bits_looked_at e % 4096) 0) h
+pushed_vid_open other e h = absurd (by_tag_closed _ _ h)
 
 own_vid_open : (k : Option ℕ) (e : MatchField) → own_vid k e ≡ Open → ⊥
 own_vid_open None e h = cc
@@ -160,10 +156,9 @@ zero_open e true h = refl
 zero_open e false h = absurd cc
 
 pushed_pcp_open : (tagged : Bool) (k : TagNumber) (e : MatchField) → pushed_pcp tagged k e ≡ Open → (not (is_number_known k) || (is_received k && (eqb e.value 0 && not tagged))) ≡ true
-pushed_pcp_open tagged (Value n) e h = absurd (by_tag_closed _ _ h)
-pushed_pcp_open tagged (IfTagged n) e h = absurd (by_tag_closed _ _ h)
 pushed_pcp_open tagged Received e h = zero_open e (eqb e.value 0 && not tagged) h
 pushed_pcp_open tagged Unknown e h = refl
+pushed_pcp_open tagged other e h = absurd (by_tag_closed _ _ h)
 
 own_pcp_open : (k : Option ℕ) (e : MatchField) → own_pcp k e ≡ Open → ⊥
 own_pcp_open None e h = cc

@@ -9,14 +9,12 @@ use Rattle.of_actions.specs.declared.action.Action.{Action}
 use Rattle.of_symbolic.specs.Overlaid.{is_field_known, is_number_known, is_tag_known, overlaid, tag_number, tag_of_packet}
 use Rattle.of_symbolic.specs.Tags.{AreTagsAfter, IsNumber, is_inner, own_tag, own_tags, tags_from}
 use Rattle.of_symbolic.specs.{declared.overlay.Overlay.Overlay, declared.overlay.PushedTag.PushedTag, declared.overlay.ReceivedTag.ReceivedTag, declared.overlay.TagNumber.TagNumber}
-use Rattle.of_symbolic.specs.declared.overlay.TagNumber.TheVariants.{Value, Received, IfTagged, Unknown}
+use Rattle.of_symbolic.specs.declared.overlay.TagNumber.TheVariants.{Unknown}
 use Rattle.of_symbolic.{specs.Actions.view_of_actions, specs.Overlays.IsOverlay, specs.Overlays.Shows, specs.Overlays.tags_in, proofs.Showing.overlay_shows}
 
 number_is : (k : TagNumber) (o : Option ℕ) (x : ℕ) → is_number_known k ≡ true → IsNumber k o x → x ≡ tag_number k o
-number_is (Value n) o x known h = h
-number_is Received o x known h = h
-number_is (IfTagged n) o x known h = h
 number_is Unknown o x known h = absurd cc
+number_is other o x known h = h
 
 own_outermost : (k : ReceivedTag) (ts : List Tag) → outermost (own_tags k ts) ≡ option_map (own_tag k) (outermost ts)
 own_outermost k [] = refl

@@ -12,8 +12,7 @@ one_frame actions.PopVlan s h r = still_frame PopVlan s h tt
 one_frame (actions.SetNwTtl ttl) s h r = still_frame (SetTtl ttl) s h tt
 one_frame actions.DecNwTtl s h r = still_frame DecTtl s h tt
 one_frame (actions.SetField f v) s h r = still_frame (Set f v) s h r
-one_frame (actions.Output port max) s h r = absurd r
-one_frame (actions.Group group) s h r = absurd r
+one_frame other s h r = absurd r
 
 one_view : (a : Action) (s : List ℕ) (v : View) → IsFrame s → IsRewriting a → IsView v s → IsView (view_by (call_of a) v) (frame_by (call_of a) s)
 one_view (actions.PushVlan type) s v h r is = view_follows (PushVlan type) s v h tt r is
@@ -21,8 +20,7 @@ one_view actions.PopVlan s v h r is = view_follows PopVlan s v h tt tt is
 one_view (actions.SetNwTtl ttl) s v h r is = view_follows (SetTtl ttl) s v h tt tt is
 one_view actions.DecNwTtl s v h r is = view_follows DecTtl s v h tt tt is
 one_view (actions.SetField f value) s v h r is = view_follows (Set f value) s v h tt r is
-one_view (actions.Output port max) s v h r is = absurd r
-one_view (actions.Group group) s v h r is = absurd r
+one_view other s v h r is = absurd r
 
 pub stays_frame : (l : List Action) (s : List ℕ) → IsFrame s → AreRewriting l → IsFrame (frame_of_actions l s)
 stays_frame [] s h r = h

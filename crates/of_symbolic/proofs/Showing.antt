@@ -103,11 +103,10 @@ field_set_by false n o x y h = h
 one_shows : (told : Bool) (a : Action) (set : Field → Option ℕ) (k : Tags) (v w : View) → Shows set k v w → Shows (λ f. value_by a f (set f)) (tags_by told a k) v (view_by (call_of a) w)
 one_shows told (actions.PushVlan type) set k v w h = record { fields = h.fields; tags = (new_pushed k.pushed k.own (tags_from (is_inner k.own) v.tags) w.tags h.tags, h.tags) }
 one_shows told actions.PopVlan set k v w h = record { fields = h.fields; tags = popped_tags told k.pushed k.own v.tags w.tags h.tags }
-one_shows told (actions.SetNwTtl ttl) set k v w h = record { fields = h.fields; tags = h.tags }
-one_shows told actions.DecNwTtl set k v w h = record { fields = h.fields; tags = h.tags }
 one_shows told (actions.SetField f n) set k v w h = record {
   fields = λ g. field_set_by (eqb (number_of g) (number_of f)) (n % 2 ^ bit_count g) (set g) (v.fields g) (w.fields g) (h.fields g);
   tags = set_tags f n k.pushed k.own v.tags w.tags h.tags;
+one_shows told other set k v w h = record { fields = h.fields; tags = h.tags }
 }
 one_shows told (actions.Output port max) set k v w h = record { fields = h.fields; tags = h.tags }
 one_shows told (actions.Group group) set k v w h = record { fields = h.fields; tags = h.tags }

@@ -36,11 +36,8 @@ set_small f v (t ∷ ts) h = (tag_small f v t h.0, h.1)
 one_small : (a : Action) (v : View) → HasVids v → HasVids (view_by (call_of a) v)
 one_small (actions.PushVlan type) v h = (new_small v.tags h, h)
 one_small actions.PopVlan v h = rest_small v.tags h
-one_small (actions.SetNwTtl ttl) v h = h
-one_small actions.DecNwTtl v h = h
 one_small (actions.SetField f n) v h = set_small f n v.tags h
-one_small (actions.Output port max) v h = h
-one_small (actions.Group group) v h = h
+one_small other v h = h
 
 pub all_small : (l : List Action) (v : View) → HasVids v → HasVids (view_of_actions l v)
 all_small [] v h = h

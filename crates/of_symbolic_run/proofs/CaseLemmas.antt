@@ -3,7 +3,7 @@ use Rattle.std.proofs.Common.{Bool, ◌≡◌, ◌<◌, ◌≤◌, ◌+◌, ℕ,
 use Rattle.std.specs.{Prelude.IfSome, Prelude.map, Prelude.slice_get, Global.Vec, List.Contains, Option.option_map}
 use Rattle.std.proofs.{lemmas.List.append-nil, lemmas.List.map-append, lemmas.Bool.Decides.nat_tests, lemmas.Option.slice_get-get_or}
 use Rattle.of_layers.specs.declared.field.Field.{Field}
-use Rattle.of_actions.specs.declared.instruction.Instruction.TheVariants.{Apply, Clear, Goto, Metadata, Write}
+use Rattle.of_actions.specs.declared.instruction.Instruction.TheVariants.{Goto}
 use Rattle.of_actions.specs.{declared.action.Action.Action, declared.instruction.Instruction.Instruction}
 use Rattle.of_table.specs.{declared.entry.Entry.Entry, declared.flow.Flow.Flow, Table.FlowEntry, Table.flow_at, Table.winner_place}
 use Rattle.of_machine.specs.Rows.{Row, Task, at_entry, entry_row, lookup_row, task, works}
@@ -33,18 +33,12 @@ pub at_place : (l : List Instruction) (k : ℕ) (i j : Instruction) → slice_ge
 at_place l k i j at lt is = let there : slice_get l k ≡ Some j = slice_get-get_or l k j lt ∙ ap Some (sym is) in cc
 
 on_works : (i : Instruction) (rest : List Instruction) → goes_to_table i ≡ false → works (i ∷ rest) ≡ rows.Do i ∷ works rest
-on_works (Apply l) rest h = refl
-on_works Clear rest h = refl
-on_works (Write l) rest h = refl
-on_works (Metadata value mask) rest h = refl
 on_works (Goto t) rest h = absurd cc
+on_works other rest h = refl
 
 last_works : (i : Instruction) (rest : List Instruction) → goes_to_table i ≡ true → works (i ∷ rest) ≡ rows.Do i ∷ []
-last_works (Apply l) rest h = absurd cc
-last_works Clear rest h = absurd cc
-last_works (Write l) rest h = absurd cc
-last_works (Metadata value mask) rest h = absurd cc
 last_works (Goto t) rest h = refl
+last_works other rest h = absurd cc
 
 pub instruction_more : (l : List Instruction) (k : ℕ) (i : Instruction) (old new : List Work) → slice_get l k ≡ Some i → k < length l → new ≡ old ++ Do i ∷ [] → goes_to_table i ≡ false → map work_for old ++ works (drop k l) ≡ works l → map work_for new ++ works (drop (k + 1) l) ≡ works l
 instruction_more l k i old new at lt e on h =

@@ -6,7 +6,7 @@ use Rattle.of_layers.specs.Reading.{layers_of}
 use Rattle.of_rewrite.specs.{Frames.IsFrame, Frames.frame_ttl_decremented, TimeToLive.dec_ttl_result, TimeToLive.ttl_of}
 use Rattle.of_actions.specs.declared.action.Action.TheVariants as actions
 use Rattle.of_wire.specs.declared.reasons.PacketInReason.TheVariants as reasons
-use Rattle.of_machine.specs.Rows.{Row, Task, dec_ttl_row, packet_in_emitted, task}
+use Rattle.of_machine.specs.Rows.{Task, dec_ttl_row, packet_in_emitted, task}
 use Rattle.of_machine.specs.{declared.data.Packet.Packet, declared.data.Item.Item, declared.data.Step.Step, declared.data.Step.TheVariants.Act as DidAct, declared.data.Step.TheVariants.TtlExpired}
 use Rattle.of_machine.specs.TheWorld.{TheWorld}
 use Rattle.of_machine.specs.Rows as rows

@@ -8,10 +8,9 @@ use Rattle.of_headers.proofs.LookLemmas.{lacks, look-append, look_bytes, look_fr
 use Rattle.of_rewrite.{specs.Frames.IsFrame, specs.Frames.frame_ttl_decremented, specs.TimeToLive.ttl_of, proofs.Framing.bytes_are, proofs.Framing.is_aged}
 
 abbrev is_ip : Body → Bool
-is_ip (Plain rest) = false
-is_ip (Arp ns rest) = false
 is_ip (Ipv4 ns opts c rest) = true
 is_ip (Ipv6 ns es c rest) = true
+is_ip other = false
 
 some_before : (o x : Option ℕ) → is_some o ≡ true → is_some (option_or o x) ≡ true
 some_before None x h = absurd cc

@@ -35,9 +35,7 @@ step_at w frame port (t ∷ ts) e l new h k n tasks items lines =
 
 pub advances_at : (a : Advance) (w : TheWorld) (frame : List ℕ) (port : ℕ) (old new : SymbolicState) → Advances a old.tasks.items old.emitted.items new.tasks.items new.emitted.items → TellsAdvance a old.tasks.items old.steps.items new.steps.items → IsAt w frame port old → IsAt w frame port new
 advances_at advances.Done w frame port old new h k at = step_at w frame port old.tasks.items old.emitted.items old.steps.items new h k at.steps at.tasks at.items at.lines
-advances_at (advances.Lookup t) w frame port old new h k at = record { steps = at.steps; tasks = rw h.0 at.tasks; items = rw h.1 at.items; lines = rw k at.lines }
-advances_at advances.DecNwTtl w frame port old new h k at = record { steps = at.steps; tasks = rw h.0 at.tasks; items = rw h.1 at.items; lines = rw k at.lines }
-advances_at (advances.Group group) w frame port old new h k at = record { steps = at.steps; tasks = rw h.0 at.tasks; items = rw h.1 at.items; lines = rw k at.lines }
+advances_at other w frame port old new h k at = record { steps = at.steps; tasks = rw h.0 at.tasks; items = rw h.1 at.items; lines = rw k at.lines }
 
 -- one step takes the row of the first packet
 pub taken_at : (w : TheWorld) (frame : List ℕ) (port : ℕ) (old new : SymbolicState) (t : SymbolicTask) (rest : List SymbolicTask) → old.tasks.items ≡ t ∷ rest → map (task_for frame port) new.tasks.items ≡ (row_for w frame port t).left ++ map (task_for frame port) rest →

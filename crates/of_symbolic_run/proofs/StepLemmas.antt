@@ -46,11 +46,9 @@ alike_rewrites other h = cc
 pub is_rewriting : (a : Action) → IsTrue (is_supported false a) → IsTrue (rewrites_frames a) → IsRewriting a
 is_rewriting (actions.Output port max_len) served h = cc
 is_rewriting (actions.PushVlan type) served h = tag_type type served
-is_rewriting actions.PopVlan served h = tt
 is_rewriting (actions.Group group) served h = cc
-is_rewriting (actions.SetNwTtl ttl) served h = tt
-is_rewriting actions.DecNwTtl served h = tt
 is_rewriting (actions.SetField f v) served h = settable f v served
+is_rewriting other served h = tt
 
 pub rewriting_more : (l : List Action) (a : Action) → AreRewriting l → IsRewriting a → AreRewriting (l ++ a ∷ [])
 rewriting_more [] a h one = (one, tt)
@@ -131,8 +129,6 @@ quiet (Act (actions.SetField f v)) h ts l = absurd cc
 
 is_answered : (x : Work) (line : Step) → work_line x ≡ Some line → answer_to x ≡ Done
 is_answered (Lookup t) line h = absurd cc
-is_answered (Do i) line h = refl
-is_answered RunSet line h = refl
 is_answered (Act (actions.Output port max_len)) line h = refl
 is_answered (Act (actions.PushVlan type)) line h = refl
 is_answered (Act actions.PopVlan) line h = refl
@@ -140,6 +136,7 @@ is_answered (Act (actions.Group group)) line h = absurd cc
 is_answered (Act (actions.SetNwTtl ttl)) line h = refl
 is_answered (Act actions.DecNwTtl) line h = absurd cc
 is_answered (Act (actions.SetField f v)) line h = refl
+is_answered other line h = refl
 
 either_line : (b : Bool) (x y : rows.Row) (line : Step) → x.line ≡ line → y.line ≡ line → (cond b x y).line ≡ line
 either_line true x y line h k = h

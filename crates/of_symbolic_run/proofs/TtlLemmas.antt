@@ -29,10 +29,6 @@ abbrev ttl_by_known : KnownTtl → Option ℕ → Option ℕ
 ttl_by_known k o = option_map (ttl_as k) o
 
 one_by : (a : Action) (v : View) (k : KnownTtl) (o : Option ℕ) → v.ttl ≡ ttl_by_known k o → (view_by (call_of a) v).ttl ≡ ttl_by_known (ttl_by a k) o
-one_by (actions.Output port max_len) v k o h = h
-one_by (actions.PushVlan type) v k o h = h
-one_by actions.PopVlan v k o h = h
-one_by (actions.Group group) v k o h = h
 one_by (actions.SetNwTtl t) v k o h = ap (option_map (λ (x : ℕ). t % 2 ^ 8)) h ∙ twice o
   where
     twice : (o : Option ℕ) → option_map (λ (x : ℕ). t % 2 ^ 8) (ttl_by_known k o) ≡ ttl_by_known (Fixed (t % 2 ^ 8)) o
@@ -43,7 +39,7 @@ one_by actions.DecNwTtl v k o h = ap (option_map one_less) h ∙ twice o
     twice : (o : Option ℕ) → option_map one_less (ttl_by_known k o) ≡ ttl_by_known (ttl_decremented k) o
     twice None = refl
     twice (Some x) = ap (λ (y : ℕ). Some y) (as_decremented k x)
-one_by (actions.SetField f value) v k o h = h
+one_by other v k o h = h
 
 all_by : (l : List Action) (v : View) (k : KnownTtl) (o : Option ℕ) → v.ttl ≡ ttl_by_known k o → (view_of_actions l v).ttl ≡ ttl_by_known (fold (λ k a. ttl_by a k) k l) o
 all_by [] v k o h = h

@@ -4,7 +4,7 @@ use Rattle.std.proofs.lemmas.Bool.Decides.{nat_tests}
 use Rattle.of_layers.specs.{declared.field.Prerequisite.Prerequisite, Fields.number_of, Fields.prerequisite_of}
 use Rattle.of_oxm.{specs.declared.match_field.MatchField.MatchField, specs.Prerequisites.is_met, specs.SameMatch.is_same_match, specs.NormalForm.IsMatch, proofs.Covered.covered_has_prerequisites}
 use Rattle.of_oxm.proofs.Related.{and_true}
-use Rattle.of_actions.specs.declared.instruction.Instruction.TheVariants.{Apply, Clear, Write, Metadata, Goto}
+use Rattle.of_actions.specs.declared.instruction.Instruction.TheVariants.{Apply, Write}
 use Rattle.of_actions.specs.{declared.action.Action.Action, declared.action.Action.TheVariants.SetField, declared.instruction.Instruction.Instruction}
 use Rattle.of_actions.specs.FlowCheck.{is_prerequisite_met, are_needs_met, has_prerequisites_met, all_go_with}
 use Rattle.of_table.specs.{declared.selection.Selector.Selector, Table.FlowEntry, Selecting.is_meant_by, Selecting.is_meant, Selecting.has_cookie, Selecting.modifies}
@@ -26,10 +26,8 @@ needs_kept d m more (a ∷ rest) h =
 
 still_goes : (d m : List MatchField) → ((n : Prerequisite) → is_met d n ≡ true → is_met m n ≡ true) → (i : Instruction) → has_prerequisites_met d i ≡ true → has_prerequisites_met m i ≡ true
 still_goes d m more (Apply actions) h = needs_kept d m more actions h
-still_goes d m more Clear h = refl
 still_goes d m more (Write actions) h = needs_kept d m more actions h
-still_goes d m more (Metadata value mask) h = refl
-still_goes d m more (Goto table) h = refl
+still_goes d m more other h = refl
 
 all_still_go : (d m : List MatchField) → ((n : Prerequisite) → is_met d n ≡ true → is_met m n ≡ true) → (is : List Instruction) → all_go_with d is ≡ true → all_go_with m is ≡ true
 all_still_go d m more [] h = refl

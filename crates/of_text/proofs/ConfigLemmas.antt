@@ -5,7 +5,7 @@ use Rattle.std.proofs.{lemmas.Bool.eq-eqb, lemmas.Bool.ne_eqb, lemmas.Bool.eqb-t
 use Rattle.of_wire.specs.{declared.code.Code.Code, Refusals.first_of}
 use Rattle.of_lines.specs.Order.{start_place, following, following_all, flow_next, flow_standing}
 use Rattle.of_lines.specs.{declared.row.Row.Row, Lines.lines_of, Rows.Fits, declared.order.Place.Place}
-use Rattle.of_lines.specs.declared.order.Place.TheVariants.{Start, InGroup, InBucket, InFlow}
+use Rattle.of_lines.specs.declared.order.Place.TheVariants.{Start, InFlow}
 use Rattle.of_lines.specs.{declared.row.FlowHead.FlowHead, Reading.◌>>=◌}
 use Rattle.of_lines.specs.declared.row.Row.TheVariants as rows
 use Rattle.of_text.specs.Flows.{Flow, flow_rows, rows_of_all_flows, instruction_rows, text_rows}
@@ -189,9 +189,7 @@ tables_whole (suc n) t fs h = all_both IsWhole (flows_for t fs) (all_flows (tabl
 flow_begins : (place : Place) (h : FlowHead) → following place (rows.Flow h) ≡ Some (InFlow 0)
 unfolding following flow_next
 flow_begins Start h = refl
-flow_begins (InGroup n) h = refl
-flow_begins (InBucket n) h = refl
-flow_begins (InFlow n) h = refl
+flow_begins other h = refl
 
 mapped_some : {A B : Type 0} (f : A → B) (o : Option A) → IsSome o → IsSome (option_map f o)
 mapped_some f None h = absurd cc

@@ -7,7 +7,7 @@ use Rattle.std.proofs.{lemmas.List.append-nil, lemmas.List.take_all, lemmas.List
 use Rattle.of_wire.specs.{declared.code.Code.Code, Refusals.first_of, Refusals.refusal}
 use Rattle.of_layers.specs.{declared.field.Field.Field, Fields.ones_of, Fields.is_settable}
 use Rattle.of_oxm.specs.{declared.match_field.MatchField.MatchField, MatchFieldWire.value_refusals, NormalForm.IsKept, NormalForm.IsKeptMask, NormalForm.IsMatch}
-use Rattle.of_actions.specs.declared.instruction.Instruction.TheVariants.{Apply, Clear, Write, Metadata, Goto}
+use Rattle.of_actions.specs.declared.instruction.Instruction.TheVariants.{Apply, Write, Goto}
 use Rattle.of_actions.specs.{declared.action.Action.Action, declared.action.Action.TheVariants.Output, declared.action.Action.TheVariants.PushVlan, declared.action.Action.TheVariants.SetField}
 use Rattle.of_actions.specs.{declared.instruction.Instruction.Instruction, PortNumbers.is_port, FlowCheck.all_go_with, Rising.is_ascending, Supported.is_supported, Supported.are_supported}
 use Rattle.of_actions.specs.InstructionLists.{is_served_body, is_for, run_place}
@@ -81,17 +81,12 @@ list_stands xs h =
 instruction_stands : (s : Instruction) → is_served_body s ≡ true → first_of (instruction_refusals s) ≡ None
 unfolding instruction_refusals
 instruction_stands (Apply xs) h = list_stands xs h
-instruction_stands Clear h = refl
 instruction_stands (Write xs) h = list_stands xs h
-instruction_stands (Metadata v m) h = refl
-instruction_stands (Goto t) h = refl
+instruction_stands other h = refl
 
 goto_stands : (table : ℕ) (s : Instruction) → is_served_body s ≡ true → is_for table s ≡ true → first_of (goto_refusals table s) ≡ None
-goto_stands table (Apply xs) h k = refl
-goto_stands table Clear h k = refl
-goto_stands table (Write xs) h k = refl
-goto_stands table (Metadata v m) h k = refl
 goto_stands table (Goto to) h k = rw (and_from (nat_lt table to) (nat_lt to 16) k h) refl
+goto_stands table other h k = refl
 
 instructions_stand : (ss : List Instruction) → list_all is_served_body ss ≡ true → AllByRecursion (λ s. first_of (instruction_refusals s) ≡ None) ss
 instructions_stand [] h = tt

@@ -1,5 +1,5 @@
 -- What is below a line is notes, whatever it says.
-use Rattle.std.proofs.Common.{◌≡◌, ◌==◌, ◌&&◌, ℕ, suc, Bool, true, false, cond, List, [], ◌∷◌, ◌++◌, Option, Some, None, refl, sym, ap, ◌∙◌}
+use Rattle.std.proofs.Common.{◌≡◌, ◌&&◌, ℕ, suc, Bool, true, false, cond, List, [], ◌∷◌, ◌++◌, Option, Some, None, refl, sym, ap, ◌∙◌}
 use Rattle.std.{specs.Prelude.codes, specs.Prelude.decimal, specs.Prelude.nat_lt, specs.List.flat_map, proofs.lemmas.List.append_assoc, proofs.lemmas.List.append-nil}
 use Rattle.std.proofs.lemmas.List.Concat.{flat_map-append}
 use Rattle.of_layers.specs.{declared.field.Field.Field, Fields.name_of}
@@ -7,7 +7,7 @@ use Rattle.of_layers.specs.declared.field.TheConstants.Field as constants
 use Rattle.of_actions.specs.{declared.action.Action.Action, declared.action.Action.TheVariants.Group}
 use Rattle.of_oxm.specs.declared.match_field.MatchField.{MatchField}
 use Rattle.of_table.specs.{declared.flow.Flow.Flow, Table.FlowEntry, Tables.table_at}
-use Rattle.of_machine.specs.declared.data.Step.TheVariants.{Miss, Entry, Apply, Clear, Write, Metadata, Goto, Set, Act, TtlExpired, End}
+use Rattle.of_machine.specs.declared.data.Step.TheVariants.{Miss, Entry, Metadata, Act, TtlExpired}
 use Rattle.of_machine.specs.declared.data.Step.{Step}
 use Rattle.of_text.specs.{Lines.ended, Lines.note, Rows.row_encoding}
 use Rattle.of_lines.specs.declared.row.Row.TheVariants as rows
@@ -102,15 +102,10 @@ of_running f other = none
 of_step : (style : Style) (f : Forwarding) (asked : Asked) (s : Sight) (step : Step) → AreNotes (notes style f asked s step)
 of_step style f asked s (Miss t) = both _ _ (of_miss style t) (of_look style f asked t (key_seen s))
 of_step style f asked s (Entry t place) = both _ _ (of_found style t (flow_there f t place)) (of_look style f asked t (key_seen s))
-of_step style f asked s Apply = none
-of_step style f asked s Clear = none
-of_step style f asked s Write = none
 of_step style f asked s (Metadata value mask) = of_changes style (Metadata value mask) s
-of_step style f asked s (Goto t) = none
-of_step style f asked s Set = none
 of_step style f asked s (Act action) = both _ _ (both _ _ (of_unsent style (unsent_action f s.ingress action)) (of_running f action)) (of_changes style (Act action) s)
 of_step style f asked s TtlExpired = one (codes "its work ends here")
-of_step style f asked s End = none
+of_step style f asked s other = none
 
 of_first : (style : Style) (f : Forwarding) (asked : Asked) (sights : List Sight) (step : Step) → AreNotes (first_notes style f asked sights step)
 of_first style f asked [] step = none

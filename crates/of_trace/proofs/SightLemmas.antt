@@ -3,9 +3,9 @@ use Rattle.std.proofs.Common.{◌≡◌, ◌==◌, ℕ, suc, zero, Bool, true, f
 use Rattle.std.specs.Prelude.{replicate, length}
 use Rattle.of_wire.specs.declared.limits.TheConstants.{OFPP_TABLE}
 use Rattle.of_layers.specs.Reading.{layers_of}
-use Rattle.of_rewrite.specs.{declared.frame.Ttl.Ttl, declared.frame.Ttl.TheVariants.Done, declared.frame.Ttl.TheVariants.Expired, declared.frame.Ttl.TheVariants.Absent}
+use Rattle.of_rewrite.specs.{declared.frame.Ttl.Ttl, declared.frame.Ttl.TheVariants.Done, declared.frame.Ttl.TheVariants.Absent}
 use Rattle.of_rewrite.specs.{TimeToLive.ttl_of, TimeToLive.dec_ttl_result, Frames.IsFrame, Frames.frame_ttl_decremented}
-use Rattle.of_actions.specs.declared.instruction.Instruction.TheVariants.{Apply, Clear, Write, Metadata, Goto}
+use Rattle.of_actions.specs.declared.instruction.Instruction.TheVariants.{Apply}
 use Rattle.of_actions.specs.{declared.action.Action.Action, declared.action.Action.TheVariants.Output, declared.action.Action.TheVariants.Group, declared.action.Action.TheVariants.DecNwTtl}
 use Rattle.of_actions.specs.declared.instruction.Instruction.{Instruction}
 use Rattle.of_table.specs.declared.flow.Flow.{Flow}
@@ -50,9 +50,8 @@ module _ (w : TheWorld) (p : Packet) (rest : List Work) where
   same_frame frame e = rw e refl
 
   aged_told : (answer : Ttl) → dec_ttl_result (ttl_of (layers_of p.frame)) ≡ answer → IsFrame p.frame → IsTold w p (dec_ttl_row p rest answer)
-  aged_told Expired e h = refl
-  aged_told Done e h = refl
   aged_told Absent e h = same_frame (frame_ttl_decremented p.frame) (aged_same p.frame h (λ done. let x : Absent ≡ Done = sym e ∙ done in cc))
+  aged_told other e h = refl
 
   act_told : (a : Action) → IsFrame p.frame → IsTold w p (row w p (Act a ∷ rest))
   act_told (Output port max_len) h = output_told port max_len (port == OFPP_TABLE) refl
@@ -62,10 +61,7 @@ module _ (w : TheWorld) (p : Packet) (rest : List Work) where
 
   do_told : (i : Instruction) → IsTold w p (row w p (Do i ∷ rest))
   do_told (Apply l) = refl
-  do_told Clear = refl
-  do_told (Write l) = refl
-  do_told (Metadata v m) = refl
-  do_told (Goto t) = refl
+  do_told other = refl
 
 row_told : (w : TheWorld) (p : Packet) (work : List Work) → IsFrame p.frame → IsTold w p (row w p work)
 row_told w p [] h = refl

@@ -1,11 +1,11 @@
 -- A TRACE IN WORDS: the frame, the steps, and what leaves.
-use Rattle.std.specs.Prelude.{ℕ, ◌==◌, nat_lt, bit_and, List, [], ◌∷◌, ◌++◌, length, Option, Some, None, codes, decimal, if◌then◌else◌}
+use Rattle.std.specs.Prelude.{ℕ, ◌==◌, nat_lt, List, [], ◌∷◌, ◌++◌, length, Option, Some, None, codes, decimal, if◌then◌else◌}
 use Rattle.std.specs.List.{flat_map}
 use Rattle.of_wire.specs.declared.limits.TheConstants.{OFPP_CONTROLLER}
 use Rattle.hex.specs.Hex.{encode_lower}
 use Rattle.of_layers.specs.{declared.field.Field.Field, Fields.name_of, Reading.layers_of}
 use Rattle.of_layers.specs.declared.field.Field.TheVariants as fields
-use Rattle.of_headers.specs.{declared.headers.FrameFault.FrameFault, declared.headers.FrameFault.TheVariants.Short, declared.headers.FrameFault.TheVariants.Long, Faults.frame_fault}
+use Rattle.of_headers.specs.{declared.headers.FrameFault.FrameFault, Faults.frame_fault}
 use Rattle.of_rewrite.specs.TimeToLive.{ttl_of}
 use Rattle.of_actions.specs.{declared.action.Action.Action, declared.action.Action.TheVariants.Output, declared.action.Action.TheVariants.Group, declared.action.Action.TheVariants.SetField}
 use Rattle.of_ports.specs.{declared.port.Port.Port, Ports.is_live, Ports.may_receive, Ports.port_at}

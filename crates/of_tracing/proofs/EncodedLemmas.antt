@@ -4,7 +4,7 @@ use Rattle.std.specs.{Prelude.IsTrue, Prelude.⊤, List.list_all}
 use Rattle.of_wire.specs.declared.limits.TheConstants.{OFPP_TABLE}
 use Rattle.of_layers.{specs.Reading.layers_of, proofs.TestLemmas.and_true}
 use Rattle.of_headers.specs.{declared.headers.FrameFault.FrameFault, Faults.frame_fault}
-use Rattle.of_rewrite.specs.{declared.frame.Ttl.Ttl, declared.frame.Ttl.TheVariants.Done, declared.frame.Ttl.TheVariants.Expired, declared.frame.Ttl.TheVariants.Absent}
+use Rattle.of_rewrite.specs.{declared.frame.Ttl.Ttl, declared.frame.Ttl.TheVariants.Expired}
 use Rattle.of_rewrite.specs.TimeToLive.{ttl_of, dec_ttl_result}
 use Rattle.of_actions.specs.declared.instruction.Instruction.TheVariants.{Apply, Clear, Write, Metadata, Goto}
 use Rattle.of_actions.specs.{declared.action.Action.Action, declared.action.Action.TheVariants.Output, declared.action.Action.TheVariants.Group, declared.action.Action.TheVariants.DecNwTtl}
@@ -22,10 +22,9 @@ use Rattle.of_tracing.specs.Encoded.{is_encoded, are_encoded}
 -- ---- work whose actions are those of flows
 
 abbrev IsEncodedWork : Work → Type 0
-IsEncodedWork (Lookup t) = ⊤
 IsEncodedWork (Do i) = IsTrue (is_served_body i)
-IsEncodedWork RunSet = ⊤
 IsEncodedWork (Act a) = IsTrue (is_supported false a)
+IsEncodedWork other = ⊤
 
 abbrev AllEncodedWork : List Work → Type 0
 AllEncodedWork [] = ⊤
@@ -80,8 +79,7 @@ module _ (w : TheWorld) (sound : IsSound w) (p : Packet) (rest : List Work) wher
 
   aged_encoded : (answer : Ttl) → AllEncodedWork rest → IsEncodedRow (dec_ttl_row p rest answer)
   aged_encoded Expired k = (refl, (tt, tt))
-  aged_encoded Done k = (dec_served, (k, tt))
-  aged_encoded Absent k = (dec_served, (k, tt))
+  aged_encoded other k = (dec_served, (k, tt))
 
   copies_encoded : (group : ℕ) (places : List ℕ) → AllEncodedTasks (copies w group p places)
   copies_encoded group [] = tt
@@ -99,10 +97,8 @@ module _ (w : TheWorld) (sound : IsSound w) (p : Packet) (rest : List Work) wher
 
   do_encoded : (i : Instruction) → IsTrue (is_served_body i) → AllEncodedWork rest → IsEncodedRow (row w p (Do i ∷ rest))
   do_encoded (Apply l) h k = (refl, (work_more (acts l) rest (acts_encoded l (list_served l h)) k, tt))
-  do_encoded Clear h k = (refl, (k, tt))
-  do_encoded (Write l) h k = (refl, (k, tt))
-  do_encoded (Metadata v m) h k = (refl, (k, tt))
   do_encoded (Goto t) h k = (refl, ((tt, tt), tt))
+  do_encoded other h k = (refl, (k, tt))
 
 row_encoded : (w : TheWorld) → IsSound w → (p : Packet) (work : List Work) → IsSet p.action_set → AllEncodedWork work → IsEncodedRow (row w p work)
 row_encoded w sound p [] set h = (refl, tt)

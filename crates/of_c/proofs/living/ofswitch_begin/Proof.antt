@@ -1,5 +1,5 @@
 -- `ofswitch_begin` meets its contract: a walk of its MIR by hand. A new switch is written into the room.
-use Rattle.of_c.proofs.Walking.{◌≡◌, ℕ, List, [], ◌∷◌, ◌++◌, refl, proved, full_share, id⊢, sep, ftrue, Val, vunit, vint, vstruct, vcons, vnil, sem, fact, tables, ‵, raw, ◌⊛◌, some, later, prop, at_ret, ◌$◌, ◌∵◌, !, qed, done, move, drop, use1, use2, split, join, feq_i, pick, await, regoal, suffices, frame, group, show, enter, of_opd, unit_lit, stop, no_more, and_then, first, blocks, exec, returns, alloc_all, pass_all, free_all, look_at, get, through, sets, lands_as, env, WpFn, u64, w64, yes, Ptr, RawPtr, block_ptr, lies_at, in_a_block, rawptr_vals, rawptr_Tells, uint_vals, uint_Tells, plain, nothing, heard, calls_at, lasts, triple_of, framed, Stays, walk_of, says, stay_dropped, Goes-dropped, ends_at, Ty, part_in, lone, room_at, Is, shows, peeks, tells, assigns_last, init}
+use Rattle.of_c.proofs.Walking.{[], ◌∷◌, ◌++◌, refl, proved, full_share, id⊢, sep, ftrue, Val, vunit, vstruct, vcons, vnil, sem, fact, tables, ‵, raw, ◌⊛◌, some, later, prop, at_ret, ◌$◌, ◌∵◌, !, qed, done, move, drop, use1, use2, split, join, feq_i, pick, await, regoal, suffices, frame, group, show, enter, of_opd, unit_lit, stop, no_more, and_then, first, blocks, exec, returns, alloc_all, pass_all, free_all, look_at, get, through, sets, lands_as, env, WpFn, u64, w64, yes, Ptr, RawPtr, block_ptr, lies_at, in_a_block, rawptr_vals, rawptr_Tells, uint_vals, uint_Tells, plain, nothing, heard, calls_at, lasts, triple_of, framed, Stays, walk_of, says, stay_dropped, Goes-dropped, ends_at, part_in, room_at, Is, shows, peeks, tells, assigns_last, init}
 use Rattle.of_c.{specs.Living.IsNew, specs.contracts.live.Live.the_row as L, proofs.live.Live.TheLaws.the_row_laws, proofs.living.ofswitch_begin.Statement.statement, proofs.live.Live.new.Met.met}
 use Rattle.std.specs.contracts.alloc.Global as H
 use Rattle.std.proofs.alloc.Global.TheLaws as H'

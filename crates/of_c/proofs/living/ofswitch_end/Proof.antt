@@ -1,5 +1,5 @@
 -- `ofswitch_end` meets its contract: a walk of its MIR by hand. The switch is read out of memory, which leaves room.
-use Rattle.of_c.proofs.Walking.{List, [], ◌∷◌, ◌++◌, refl, ap, proved, full_share, id⊢, ftrue, Val, vunit, tables, ‵, raw, ◌⊛◌, some, later, prop, at_ret, ◌$◌, ◌∵◌, !, qed, done, move, drop, use1, use2, split, join, feq_i, feq_l, pick, await, regoal, suffices, group, enter, of_opd, unit_lit, stop, no_more, and_then, first, blocks, exec, returns, alloc_all, pass_all, free_all, look_at, get, through, sets, sets_last, lands_as, env, WpFn, unit, yes, Ptr, RawPtr, block_ptr, lies_at, in_a_block, rawptr_vals, rawptr_Tells, plain, nothing, only, calls_at, triple_of, framed, Stays, walk_of, stay_dropped, Goes-dropped, ends_at, on_entry, Ty, fat, froom, part_out, lone, ensured, load, look, well_typed}
+use Rattle.of_c.proofs.Walking.{[], ◌∷◌, ◌++◌, refl, ap, proved, full_share, id⊢, ftrue, Val, vunit, tables, ‵, raw, ◌⊛◌, some, later, prop, at_ret, ◌$◌, ◌∵◌, !, qed, done, move, drop, use1, use2, split, join, feq_i, feq_l, pick, await, regoal, suffices, group, enter, of_opd, unit_lit, stop, no_more, and_then, first, blocks, exec, returns, alloc_all, pass_all, free_all, look_at, get, through, sets, sets_last, lands_as, env, WpFn, unit, yes, Ptr, RawPtr, block_ptr, lies_at, in_a_block, rawptr_vals, rawptr_Tells, plain, nothing, only, calls_at, triple_of, framed, Stays, walk_of, stay_dropped, Goes-dropped, ends_at, on_entry, Ty, fat, froom, part_out, lone, ensured, load, look, well_typed}
 use Rattle.of_c.{specs.contracts.live.Live.the_row as L, proofs.living.ofswitch_end.Statement.statement, proofs.live.end.Met.met}
 use Rattle.of_c.specs.contracts.living.ofswitch_end as f
 use Rattle.of_c.proofs.living.ofswitch_end.Code as code

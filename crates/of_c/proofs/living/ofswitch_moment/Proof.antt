@@ -1,5 +1,5 @@
 -- `ofswitch_moment` meets its contract: a walk of its MIR by hand. The switch is lent for a lifetime that is made for the call of `moment_in`, and comes back once that is ended.
-use Rattle.of_c.proofs.Walking.{◌≡◌, ℕ, List, [], ◌∷◌, ◌++◌, refl, ap, w64, MutBor, proved, full_share, id⊢, sep, ftrue, flft, flent, named, Val, vunit, vptr, sem, fact, tables, ‵, raw, ◌⊛◌, some, later, prop, at_ret, ◌$◌, ◌∵◌, !, qed, done, move, drop, use1, use2, use3, split, join, fsplit, fjoin, feq_i, feq_l, pick, await, regoal, suffices, frame, group, show, enter, of_opd, unit_lit, addr, from, hop, stop, fld, no_more, and_then, first, blocks, exec, returns, alloc_all, pass_all, free_all, look_at, look_in_at, get, get_in, through, sets, sets_last, lands_as, env, whole, sub, agg, lft_new, lft_end, Body, WpFn, u8, unit, yes, left, lends_ref, ref_back, mem, Ptr, RawPtr, block_ptr, lies_at, in_a_block, rawptr_vals, rawptr_Tells, MutRef, mut_vals, mut_Tells, MutSlice, mut_slice_vals, mut_slice_Tells, plain, nothing, heard, only, calls_at, lasts, triple_of, framed, Stays, walk_of, says, stay_dropped, gave_ref, gave_slice, Goes-dropped, Goes-gave_ref, Goes-gave_slice, ends_at, u64, uint_vals, uint_Tells}
+use Rattle.of_c.proofs.Walking.{ℕ, List, [], ◌∷◌, ◌++◌, refl, ap, w64, MutBor, proved, full_share, id⊢, sep, ftrue, flft, flent, named, Val, vunit, vptr, sem, fact, tables, ‵, raw, ◌⊛◌, some, later, prop, at_ret, ◌$◌, ◌∵◌, !, qed, done, move, drop, use1, use2, use3, split, join, fsplit, fjoin, feq_i, feq_l, pick, await, regoal, suffices, frame, group, show, enter, of_opd, unit_lit, addr, from, hop, stop, fld, no_more, and_then, first, blocks, exec, returns, alloc_all, pass_all, free_all, look_at, look_in_at, get, get_in, through, sets, sets_last, lands_as, env, whole, sub, agg, lft_new, lft_end, Body, WpFn, u8, unit, yes, lends_ref, ref_back, mem, Ptr, RawPtr, block_ptr, lies_at, in_a_block, rawptr_vals, rawptr_Tells, MutRef, mut_vals, mut_Tells, MutSlice, mut_slice_vals, mut_slice_Tells, plain, nothing, heard, only, calls_at, lasts, triple_of, framed, Stays, walk_of, says, stay_dropped, gave_ref, gave_slice, Goes-dropped, Goes-gave_ref, Goes-gave_slice, ends_at, u64, uint_vals, uint_Tells}
 use Rattle.of_c.{specs.Answers.Gives, specs.Living.IsLiveStep, specs.contracts.live.Live.the_row as L, specs.contracts.answer.Answer.the_row as A, proofs.living.ofswitch_moment.Statement.statement}
 use Rattle.of_c.proofs.live.moment_in.Met.{met}
 use Rattle.std.specs.Prelude.{Some}

@@ -1,6 +1,6 @@
 use Rattle.std.proofs.Common.{◌∙◌, ap, List, ℕ}
 use Rattle.of_c.{specs.Calls.status_with, specs.Requiring.further_text, specs.Requiring.status_of_both, proofs.GivingLemmas.answered_by}
-use Rattle.of_require.specs.{declared.answers.Answer.Answer as Found, declared.deciding.Verdict.Verdict, Answers.worst_of}
+use Rattle.of_require.specs.{declared.deciding.Verdict.Verdict, Answers.worst_of}
 use Rattle.of_c.proofs.require.report_on.Goals as goal
 
 pub returns : goal.returns

@@ -1,4 +1,4 @@
-use Rattle.std.proofs.Common.{◌∙◌, ap, inl, inr, subst}
+use Rattle.std.proofs.Common.{◌∙◌, ap, inr, subst}
 use Rattle.of_table.specs.{Entries.entry_of, Tables.table_at}
 use Rattle.of_regions.specs.declared.searching.Found.TheVariants as found
 use Rattle.of_regions.specs.Searching.{Finds}

@@ -1,6 +1,5 @@
-use Rattle.std.proofs.Common.{◌≡◌, List, take, take_all, refl, sym, ◌∙◌, ap, subst}
+use Rattle.std.proofs.Common.{List, take_all, ◌∙◌, ap, subst}
 use Rattle.std.{specs.List.All, proofs.lemmas.List.Elements.All-nil, proofs.lemmas.List.Elements.All-more}
-use Rattle.of_layers.specs.declared.field.Field.{Field}
 use Rattle.of_oxm.specs.{Masks.mask_at, NormalForm.IsMatch}
 use Rattle.of_classifier.{specs.declared.Row.Row, specs.Looking.looked_by, proofs.Alike.looked_more, proofs.Alike.matching_alike, proofs.Alike.agree_by}
 use Rattle.of_classifier.proofs.scan.mask_of_all.Goals as goal

@@ -1,4 +1,4 @@
-use Rattle.std.proofs.Common.{◌≡◌, ◌+◌, ◌∷◌, drop, subst}
+use Rattle.std.proofs.Common.{◌+◌, drop, subst}
 use Rattle.of_diff.specs.declared.difference.Difference.{Difference}
 use Rattle.of_symbolic_run.proofs.Pairing.{at_index}
 use Rattle.of_diff_report.{specs.Telling.PutsTold, proofs.TellingLemmas.tell_more}

@@ -1,6 +1,6 @@
 use Rattle.std.proofs.Common.{◌≡◌, ◌∙◌, ◌≤◌, ℕ, ap, length}
 use Rattle.std.{specs.Prelude.map, proofs.lemmas.List.take_all}
-use Rattle.of_groups.{specs.declared.group.Group.Group, specs.Chains.chain, specs.Rounds.marks_of, proofs.MarkLemmas.length_at, proofs.MarkLemmas.length_is_chain}
+use Rattle.of_groups.{specs.declared.group.Group.Group, specs.Rounds.marks_of, proofs.MarkLemmas.length_at, proofs.MarkLemmas.length_is_chain}
 use Rattle.of_groups.proofs.listed.chain_lengths.Goals as goal
 
 pub returns : goal.returns

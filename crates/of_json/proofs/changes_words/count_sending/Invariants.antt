@@ -1,4 +1,4 @@
-use Rattle.std.proofs.Common.{◌≡◌, ◌≤◌, ◌+◌, drop}
+use Rattle.std.proofs.Common.{◌≡◌, ◌+◌, drop}
 use Rattle.of_json.specs.ChangesInWords.{count_next}
 use Rattle.of_json.proofs.changes_words.count_sending.Given as goal
 

@@ -1,15 +1,13 @@
 use Rattle.std.proofs.Common.{◌≡◌, ℕ, ◌+◌, List, ◌++◌, refl, ap, ◌∙◌, arith}
 use Rattle.byteorder.specs.Endian.{big_bytes}
 use Rattle.of_messages.specs.{declared.message.Message.TheVariants.RoleRequest as IsRoleRequest, declared.role.RoleRequest.RoleRequest}
-use Rattle.of_messages.specs.declared.role.RoleRequest.TheVariants.{NoChange, Equal, Master, Slave}
+use Rattle.of_messages.specs.declared.role.RoleRequest.TheVariants.{NoChange}
 use Rattle.of_laws.{specs.Grammar.role_cells, proofs.Places.size, proofs.Written.fields_written, proofs.Written.three}
 use Rattle.of_laws.proofs.small.write_role_request.Goals as goal
 
 total : (r : RoleRequest) → 16 ≡ size (role_cells r) + 0
 total NoChange = refl
-total Equal = refl
-total (Master generation) = refl
-total (Slave generation) = refl
+total other = refl
 
 pub returns : goal.returns
 returns c =

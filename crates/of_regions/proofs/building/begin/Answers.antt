@@ -1,6 +1,6 @@
-use Rattle.std.proofs.Common.{◌≡◌, ℕ, ap, subst}
+use Rattle.std.proofs.Common.{ℕ, ap, subst}
 use Rattle.of_layers.specs.Fields.{ones_of}
-use Rattle.of_regions.{specs.declared.joining.Bits.Bits, specs.Joining.Joined, proofs.BuildingLemmas.here, proofs.BuildingLemmas.known_within, proofs.BuildingLemmas.others_same}
+use Rattle.of_regions.{specs.Joining.Joined, proofs.BuildingLemmas.here, proofs.BuildingLemmas.known_within, proofs.BuildingLemmas.others_same}
 use Rattle.of_regions.proofs.building.begin.Goals as goal
 
 pub with-requires-clause-within : goal.with-requires-clause-within

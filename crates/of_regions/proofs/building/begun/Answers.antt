@@ -1,6 +1,6 @@
-use Rattle.std.proofs.Common.{◌≡◌, ◌≤◌, ◌<◌, ◌∙◌, get_or, length, sym, ap, arith}
+use Rattle.std.proofs.Common.{◌∙◌, get_or, length, sym, ap, arith}
 use Rattle.of_layers.specs.{declared.field.Field.Field, declared.field.Field.TheVariants.InPort}
-use Rattle.of_regions.{specs.Building.IsBegunField, specs.Building.bits_at, specs.Joining.Joined, proofs.PlaceLemmas.place, proofs.PlaceLemmas.place_of_read, proofs.PlaceLemmas.place_small}
+use Rattle.of_regions.{specs.Building.IsBegunField, proofs.PlaceLemmas.place_of_read, proofs.PlaceLemmas.place_small}
 use Rattle.of_regions.proofs.{RuleLemmas.free_unasked, RuleLemmas.is_asked, RuleLemmas.rule_fits, BuildingLemmas.begun_more, BuildingLemmas.unknown_after}
 use Rattle.of_regions.proofs.building.begun.Goals as goal
 

@@ -1,9 +1,8 @@
 use Rattle.std.proofs.Common.{◌≡◌, ◌+◌, [], get_or, Some, sym, subst, ◌∙◌}
 use Rattle.std.{specs.Prelude.slice_get, proofs.lemmas.Option.slice_get-get_or}
-use Rattle.of_oxm.specs.declared.match_field.MatchField.{MatchField}
 use Rattle.of_regions.proofs.LookLemmas.{IsSplitSoFar, crossed_on, condition_in, or_is, passed_on}
 use Rattle.of_regions.specs.{declared.meeting.Meeting.TheVariants.Apart, declared.meeting.Meeting.TheVariants.Crosses, declared.rival.Rival.Rival, Meeting.Meets}
-use Rattle.of_regions.{specs.Searching.AreApartBefore, specs.Searching.IsSplit, proofs.SearchLemmas.contains_at, proofs.looking.look_at.Goals.in-Apart, proofs.looking.look_at.Goals.in-Crosses}
+use Rattle.of_regions.{proofs.SearchLemmas.contains_at, proofs.looking.look_at.Goals.in-Apart, proofs.looking.look_at.Goals.in-Crosses}
 use Rattle.of_regions.proofs.looking.look_at.Goals as goal
 
 pub loop-index-preserved : goal.loop-index-preserved

@@ -1,9 +1,8 @@
-use Rattle.std.proofs.Common.{◌≡◌, ◌∙◌, ◌+◌, ◌≤◌, ℕ, suc, List, [], ◌∷◌, ◌++◌, map, Option, Some, None, refl, sym, ap, subst, arith}
+use Rattle.std.proofs.Common.{◌≡◌, ◌∙◌, ◌+◌, ℕ, [], ◌∷◌, ◌++◌, Option, None, refl, sym, ap, subst, arith}
 use Rattle.std.{specs.Prelude.IfNone, proofs.lemmas.Grind.common_steps}
-use Rattle.of_oxm.specs.declared.match_field.MatchField.{MatchField}
-use Rattle.of_regions.specs.Searching.{AreSteps, IsFoundBySearch, IsStart, IsState, IsStep, regions_in}
+use Rattle.of_regions.specs.Searching.{AreSteps, IsState, IsStep, regions_in}
 use Rattle.of_regions.proofs.SearchLemmas.{begun, found_at_end, last_passed, one_more, regions_begun}
-use Rattle.of_regions.specs.{declared.looking.Rest.Rest, declared.region.Region.Region, declared.rival.Rival.Rival, declared.witness.Packet.Packet}
+use Rattle.of_regions.specs.declared.witness.Packet.{Packet}
 use Rattle.of_regions.proofs.searching.search_among.Goals as goal
 
 pub loop-turn-init : goal.loop-turn-init

@@ -1,9 +1,8 @@
-use Rattle.std.proofs.Common.{◌≡◌, ◌∙◌, ◌<◌, ℕ, List, [], ◌∷◌, ◌++◌, length, get_or, Option, Some, None, refl, sym, ap, subst, arith, inl, inr}
+use Rattle.std.proofs.Common.{◌≡◌, ◌∙◌, ◌<◌, ℕ, List, [], length, get_or, Option, Some, None, refl, sym, ap, subst, inl, inr}
 use Rattle.std.{specs.Prelude.slice_get, specs.Prelude.IfNone, specs.Prelude.IfSome, proofs.lemmas.Option.slice_get_cases, proofs.lemmas.Option.slice_get_past, proofs.lemmas.Option.slice_get-get_or}
-use Rattle.of_regions.proofs.SearchLemmas.{last_within, split_state, split_step, taken_state, taken_step, unreceived_is, unreceived_state, unreceived_step, unrivalled}
+use Rattle.of_regions.proofs.SearchLemmas.{last_within, split_state, split_step, taken_state, taken_step, unreceived_state, unreceived_step, unrivalled}
 use Rattle.of_regions.specs.{declared.witness.Packet.Packet, Regions.InRegion, Witness.HasNoIngress, Witness.IsReceived, Witness.IsShortFrame, Witness.fields_in, declared.looking.Rest.Rest}
-use Rattle.of_regions.specs.{declared.rival.Rival.Rival, Naming.with_place, Searching.IsState, Searching.IsStep, Searching.regions_in}
-use Rattle.of_oxm.specs.declared.match_field.MatchField.{MatchField}
+use Rattle.of_regions.specs.{declared.rival.Rival.Rival, Naming.with_place}
 use Rattle.of_regions.proofs.searching.step.Goals as goal
 
 name_of : (rivals : List Rival) (i : ℕ) (q x : Rival) → slice_get rivals i ≡ Some q → i < length rivals → get_or rivals i x ≡ q

@@ -1,4 +1,4 @@
-use Rattle.std.proofs.Common.{◌≡◌, ℕ, Bool, true, false, Option, Some, None, refl, sym, ◌∙◌}
+use Rattle.std.proofs.Common.{◌≡◌, ℕ, false, Option, Some, None, refl, sym, ◌∙◌}
 use Rattle.std.specs.Prelude.{is_some}
 use Rattle.of_layers.specs.declared.field.Field.TheVariants.{VlanPcp, VlanVid}
 use Rattle.of_regions.proofs.starting.asks_tag.Goals as goal

@@ -1,5 +1,4 @@
-use Rattle.std.proofs.Common.{◌≡◌, ◌++◌, sym, ap, ◌∙◌}
-use Rattle.of_regions.{specs.Starting.region_list, proofs.StartLemmas.one_begun, proofs.StartLemmas.two_begun}
+use Rattle.of_regions.{proofs.StartLemmas.one_begun, proofs.StartLemmas.two_begun}
 use Rattle.of_regions.proofs.starting.push_shape.Goals as goal
 
 pub returns-then-by_tag : goal.returns-then-by_tag

@@ -1,9 +1,6 @@
-use Rattle.std.proofs.Common.{◌≡◌, ◌<◌, ◌≤◌, ◌+◌, ◌*◌, ℕ, List, length, get_or, below_more, inl, inr, subst, sym, ap, ◌∙◌, arith}
-use Rattle.std.specs.List.{Contains}
-use Rattle.of_layers.specs.declared.field.Field.{Field}
-use Rattle.of_oxm.specs.Relations.{matches_map}
-use Rattle.of_frames.specs.{declared.shape.Shape.Shape, declared.shape.Shape.TheVariants.Bare, Rules.HasShape}
-use Rattle.of_regions.specs.{declared.region.Region.Region, Regions.InRegion, Searching.InSome, Starting.IsBegun}
+use Rattle.std.proofs.Common.{◌<◌, get_or, below_more, subst, sym, ◌∙◌, arith}
+use Rattle.of_frames.specs.{declared.shape.Shape.TheVariants.Bare, Rules.HasShape}
+use Rattle.of_regions.specs.Starting.{IsBegun}
 use Rattle.of_regions.proofs.StartLemmas.{same_or, still_in, still_matched}
 use Rattle.of_regions.proofs.starting.regions_of.Goals as goal
 

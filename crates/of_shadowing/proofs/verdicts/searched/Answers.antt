@@ -1,4 +1,4 @@
-use Rattle.std.proofs.Common.{◌∙◌, ap, inl, inr, subst}
+use Rattle.std.proofs.Common.{◌∙◌, ap, inr, subst}
 use Rattle.of_regions.specs.declared.searching.Found.TheVariants as found
 use Rattle.of_regions.specs.Searching.{Finds}
 use Rattle.of_shadowing.{specs.Shadows.is_tie_of_flows, proofs.RivalLemmas.free_wins, proofs.RivalLemmas.taking_never}

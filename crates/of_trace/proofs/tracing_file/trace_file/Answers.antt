@@ -1,5 +1,4 @@
-use Rattle.std.proofs.Common.{refl}
-use Rattle.of_replay.specs.{FileRuns.flow_text, FileRuns.is_text, declared.event_file.Ended.TheVariants.NoMemory}
+use Rattle.of_replay.specs.{FileRuns.flow_text, FileRuns.is_text}
 use Rattle.of_replay.proofs.FileLemmas.{runs_unread, runs_read, faults_same, faults_written}
 use Rattle.of_trace.specs.Files.{trace_of}
 use Rattle.of_trace.proofs.tracing_file.trace_file.Goals as goal

@@ -1,5 +1,5 @@
-use Rattle.std.proofs.Common.{◌≡◌, ◌∙◌, sym, Some}
-use Rattle.of_table.specs.{Table.winner_place, Tables.table_at, Entries.entry_of}
+use Rattle.std.proofs.Common.{◌∙◌, sym}
+use Rattle.of_table.specs.{Tables.table_at, Entries.entry_of}
 use Rattle.of_tracing.proofs.WhyLemmas.{some_wins, winner_is_best, by_priority, by_age, lent_entry}
 use Rattle.of_tracing.proofs.ReasonLemmas.{won_is, lower_is, younger_is}
 use Rattle.of_tracing.proofs.explaining.why_matching.Goals as goal

@@ -1,6 +1,6 @@
-use Rattle.std.proofs.Common.{◌≡◌, sym, ◌∙◌, ap}
-use Rattle.of_layers.specs.{Layers.Layers, Reading.layers_of}
-use Rattle.of_headers.specs.{Known.IsKnownOf, Places.layout_of}
+use Rattle.std.proofs.Common.{sym, ◌∙◌, ap}
+use Rattle.of_layers.specs.Reading.{layers_of}
+use Rattle.of_headers.specs.Places.{layout_of}
 use Rattle.of_headers.proofs.known.Known.pushed.Goals as goal
 
 pub returns-in-Places-clause-known : goal.returns-in-Places-clause-known

@@ -1,4 +1,4 @@
-use Rattle.std.proofs.Common.{◌≡◌, ◌+◌, ◌++◌, [], Some, refl, ◌∙◌, ap, arith}
+use Rattle.std.proofs.Common.{◌≡◌, ◌+◌, ◌++◌, refl, ◌∙◌, arith}
 use Rattle.of_switch.{specs.Steps.gives, proofs.Draining.next_shorter}
 use Rattle.of_history.specs.{Causes.Message, Causes.Row, Changes.told_change, Changes.row_cause, Sights.sight_text}
 use Rattle.of_history.proofs.TurnLemmas.{telling_all, telling_more}

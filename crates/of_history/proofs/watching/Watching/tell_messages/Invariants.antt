@@ -1,4 +1,4 @@
-use Rattle.std.proofs.Common.{◌≡◌, ◌+◌, ◌≤◌, [], length}
+use Rattle.std.proofs.Common.{◌≡◌, ◌+◌, ◌≤◌, length}
 use Rattle.of_history.{specs.Causes.Row, specs.Changes.row_cause, specs.Sights.sight_text, proofs.TurnLemmas.Telling}
 use Rattle.of_history.proofs.watching.Watching.tell_messages.Given as goal
 

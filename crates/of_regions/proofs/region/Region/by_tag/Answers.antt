@@ -1,7 +1,7 @@
-use Rattle.std.{specs.Prelude.◌⊎◌, proofs.Common.Option, proofs.Common.ℕ, proofs.Common.inl, proofs.Common.inr}
-use Rattle.of_layers.specs.{declared.field.Field.Field, declared.field.Field.TheVariants.VlanVid}
-use Rattle.of_frames.specs.{declared.shape.Tagging.Tagging, declared.shape.Tagging.TheVariants.Untagged, declared.shape.Tagging.TheVariants.Tagged, Rules.IsTagging}
-use Rattle.of_regions.specs.{Dividing.IsByTag, Regions.InRegion, Regions.IsSomeTagging}
+use Rattle.std.{specs.Prelude.◌⊎◌, proofs.Common.inl, proofs.Common.inr}
+use Rattle.of_layers.specs.declared.field.Field.TheVariants.{VlanVid}
+use Rattle.of_frames.specs.{declared.shape.Tagging.TheVariants.Untagged, declared.shape.Tagging.TheVariants.Tagged, Rules.IsTagging}
+use Rattle.of_regions.specs.{Dividing.IsByTag, Regions.InRegion}
 use Rattle.of_regions.proofs.TaggingLemmas.{either_way, not_both_tags, parts_either}
 use Rattle.of_regions.proofs.region.Region.by_tag.Goals as goal
 

@@ -1,4 +1,4 @@
-use Rattle.std.proofs.Common.{◌≡◌, ℕ, List, length, ap, sym, ◌∙◌}
+use Rattle.std.proofs.Common.{◌≡◌, length, sym}
 use Rattle.std.specs.Prelude.{unwrap_or}
 use Rattle.of_layers.specs.Reading.{layers_of}
 use Rattle.of_headers.specs.FieldMap.{value}

@@ -1,4 +1,4 @@
-use Rattle.std.proofs.Common.{◌≡◌, ℕ, Option, Some, None, sym, subst, ap, ◌∙◌, arith}
+use Rattle.std.proofs.Common.{◌≡◌, Some, None, sym, ◌∙◌}
 use Rattle.of_headers.specs.FieldMap.{value}
 use Rattle.of_oxm.specs.Masks.{mask_at}
 use Rattle.of_regions.proofs.{WitnessLemmas.port_known, region.Region.ingress.Goals.in_default-via-in-Some+in_default, region.Region.ingress.Goals.in_default-via-in_default}

@@ -1,7 +1,6 @@
 use Rattle.std.proofs.Common.{◌≡◌, ◌≤◌, ℕ, Option, Some, None, sym, subst, ◌∙◌, arith}
 use Rattle.std.specs.Prelude.{IfSome}
 use Rattle.of_headers.specs.FieldMap.{value}
-use Rattle.of_layers.specs.declared.field.Field.TheVariants.{Metadata}
 use Rattle.of_oxm.specs.Masks.{mask_at}
 use Rattle.of_regions.proofs.WitnessLemmas.{metadata_known, metadata_small}
 use Rattle.of_regions.proofs.region.Region.metadata.Goals as goal

@@ -1,10 +1,10 @@
-use Rattle.std.proofs.Common.{◌≡◌, ◌∙◌, Option, Some, None, true, refl, sym, ap, subst, arith}
-use Rattle.of_layers.specs.{declared.field.Field.TheVariants.VlanPcp, declared.field.Field.TheVariants.VlanVid, Fields.ones_of, Fields.row_of}
-use Rattle.of_headers.specs.FieldMap.{seen, value}
+use Rattle.std.proofs.Common.{Option, Some, None, refl, subst, arith}
+use Rattle.of_layers.specs.{declared.field.Field.TheVariants.VlanPcp, declared.field.Field.TheVariants.VlanVid, Fields.row_of}
+use Rattle.of_headers.specs.FieldMap.{value}
 use Rattle.of_oxm.specs.Masks.{mask_at}
 use Rattle.of_frames.specs.{declared.shape.Tagging.Tagging, declared.shape.Tagging.TheVariants.Tagged}
 use Rattle.of_regions.proofs.TaggingLemmas.{masks_set, tag_all, tag_known, tag_vid, tag_within}
-use Rattle.of_regions.specs.Known.{AllKnown, is_known_by, rule_in}
+use Rattle.of_regions.specs.Known.{AllKnown}
 use Rattle.of_regions.proofs.region.Region.tagged.Goals as goal
 
 pub with-requires : goal.with-requires

@@ -1,4 +1,4 @@
-use Rattle.std.proofs.Common.{◌≡◌, ℕ, ◌∙◌, Option, Some, None, true, refl, sym, ap, subst, arith}
+use Rattle.std.proofs.Common.{ℕ, ◌∙◌, Option, Some, None, refl, sym, ap, subst, arith}
 use Rattle.of_layers.specs.{declared.field.Field.TheVariants.VlanPcp, declared.field.Field.TheVariants.VlanVid, Fields.ones_of, Fields.row_of}
 use Rattle.of_headers.specs.FieldMap.{seen, value}
 use Rattle.of_oxm.specs.Masks.{mask_at}

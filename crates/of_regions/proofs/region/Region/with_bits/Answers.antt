@@ -1,4 +1,4 @@
-use Rattle.std.proofs.Common.{◌≡◌, refl, sym, ap, ◌∙◌}
+use Rattle.std.proofs.Common.{◌≡◌, sym, ap, ◌∙◌}
 use Rattle.std.specs.Prelude.{bit_and}
 use Rattle.of_oxm.specs.Relations.{bits_looked_at}
 use Rattle.of_regions.proofs.NarrowingLemmas.{more_known, narrowed_all, narrowed_within, none_agrees}

@@ -1,9 +1,9 @@
-use Rattle.std.proofs.Common.{◌≡◌, ◌∙◌, ◌≤◌, ℕ, List, Option, None, Some, true, false, get_or, length, take, refl, sym, ap, subst, arith}
+use Rattle.std.proofs.Common.{◌∙◌, ◌≤◌, List, None, true, false, get_or, length, take, sym, ap, arith}
 use Rattle.std.proofs.{lemmas.List.take_all, lemmas.List.Folds.list_all_more}
 use Rattle.of_layers.specs.declared.field.Field.TheVariants.{InPort}
 use Rattle.of_oxm.specs.{declared.match_field.MatchField.MatchField, Relations.agrees, Relations.matches_map}
 use Rattle.of_regions.proofs.NarrowingLemmas.{all_at, all_before, any_at, both_true, each_true, known_unless_tag}
-use Rattle.of_regions.specs.{Narrowing.is_tag_field, Regions.InRegion, Regions.InOneRegion}
+use Rattle.of_regions.specs.Narrowing.{is_tag_field}
 use Rattle.of_regions.proofs.region.Region.with_conditions.Goals as goal
 
 abbrev d : MatchField

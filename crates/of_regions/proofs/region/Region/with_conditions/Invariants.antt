@@ -1,8 +1,7 @@
-use Rattle.std.proofs.Common.{◌≡◌, ℕ, Option, None, false, true, take}
-use Rattle.std.specs.List.{list_any}
+use Rattle.std.proofs.Common.{◌≡◌, ℕ, Option, true, take}
 use Rattle.of_layers.specs.declared.field.Field.{Field}
 use Rattle.of_oxm.specs.Relations.{matches_map}
-use Rattle.of_regions.specs.{Narrowing.is_tag_field, Regions.InRegion}
+use Rattle.of_regions.specs.Regions.{InRegion}
 use Rattle.of_regions.proofs.region.Region.with_conditions.Given as goal
 
 abbrev pub invariant-loop-e : goal.invariant-loop-e

@@ -1,4 +1,4 @@
-use Rattle.std.proofs.Common.{◌≡◌, None, subst}
+use Rattle.std.proofs.Common.{subst}
 use Rattle.of_regions.{specs.Searching.IsState, proofs.SearchLemmas.none_received, proofs.SearchLemmas.taking}
 use Rattle.of_regions.proofs.searching.State.ended.Goals as goal
 
