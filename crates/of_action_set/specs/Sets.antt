@@ -10,7 +10,7 @@ abbrev pub field_place : Argument → ℕ
 field_place (Field field value) = number_of field
 field_place other = 0
 
--- The kind of an action, as its rank in execution order: POP_VLAN, PUSH_VLAN, DEC_NW_TTL, SET_NW_TTL, SET_FIELD by ascending field, GROUP, OUTPUT. The standard says no more than that pops come before pushes, these before changes of the TTL, and sets, group and output last.
+-- The kind of an action, as its rank in execution order: that of its row in ACTIONS, and for SET_FIELD by ascending field. The standard says no more than that pops come before pushes, these before changes of the TTL, and sets, group and output last.
 abbrev pub rank : Action → ℕ
 rank a = (said a).0.rank + field_place (said a).1
 

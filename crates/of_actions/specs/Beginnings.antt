@@ -10,7 +10,7 @@ type_at rest = big_number 2 rest
 abbrev pub len_at : List ℕ → ℕ
 len_at rest = big_number 2 (drop 2 rest)
 
--- what comes behind them in its struct: the port of an OUTPUT, the type of a PUSH_VLAN, the number of a GROUP, the TTL of a SET_NW_TTL, the table of a GOTO_TABLE
+-- what comes behind them in its struct, such as the port of an OUTPUT, the number of a GROUP, the table of a GOTO_TABLE
 abbrev pub third_of : List ℕ → ℕ
 third_of (type ∷ len ∷ argument ∷ others) = argument
 third_of other = 0

@@ -88,7 +88,7 @@ outermost_set f value (t ∷ ts) = tag_set f value t ∷ ts
 abbrev pub view_set : Field → ℕ → View → View
 view_set f value v = record v { fields = λ g. if number_of g == number_of f then replaced_if_there (bit_count g) value (v.fields g) else v.fields g; tags = outermost_set f value v.tags }
 
--- SET_NW_TTL: the TTL gets the value, if the frame has a TTL
+-- a TTL that is set: it gets the value, if the frame has a TTL
 abbrev pub view_ttl : ℕ → View → View
 view_ttl value v = record v { ttl = replaced_if_there 8 value v.ttl }
 
