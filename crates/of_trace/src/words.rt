@@ -264,9 +264,7 @@ fn push_action(out: &mut Vec<u8>, action: Action) -> Result<(), AllocError>
             out.push(b' ')?;
             push_value_words(out, field, value, None)
         }
-        Action::PushVlan(_) | Action::PopVlan | Action::SetNwTtl(_) | Action::DecNwTtl => {
-            push_row(out, Row::Do(action))
-        }
+        _ => push_row(out, Row::Do(action)),
     }
 }
 
