@@ -24,6 +24,7 @@ use of_require::{
     Demand, Line, NoRequirement, NoRequirements, Verdict, answer_all, read_requirements,
     requirements_as_json, requirements_in_words, worst,
 };
+use of_values::push_each;
 use std::alloc::{AllocError, Global};
 
 const OUT_OF_MEMORY: Outcome = Outcome {
@@ -51,22 +52,11 @@ fn push_place(ports: &mut Vec<u32>, place: &Destination) -> Result<(), AllocErro
     Ok(())
 }
 
-fn push_places(ports: &mut Vec<u32>, places: &[Destination]) -> Result<(), AllocError>
-    ensures { OnOk result (ports.new.items ≡ ports.old.items ++ flat_map named_by_place places.now) }
+fn push_field(ports: &mut Vec<u32>, field: &MatchField) -> Result<(), AllocError>
+    ensures { OnOk result (ports.new.items ≡ ports.old.items ++ named_by_field field.now) }
 {
-    for place in places {
-        push_place(ports, place)?;
-    }
-    Ok(())
-}
-
-fn push_within(ports: &mut Vec<u32>, within: &[MatchField]) -> Result<(), AllocError>
-    ensures { OnOk result (ports.new.items ≡ ports.old.items ++ flat_map named_by_field within.now) }
-{
-    for field in within {
-        if let Some(port) = required_port(field) {
-            ports.push(port)?;
-        }
+    if let Some(port) = required_port(field) {
+        ports.push(port)?;
     }
     Ok(())
 }
@@ -74,8 +64,8 @@ fn push_within(ports: &mut Vec<u32>, within: &[MatchField]) -> Result<(), AllocE
 fn push_line(ports: &mut Vec<u32>, line: &Line) -> Result<(), AllocError>
     ensures { OnOk result (ports.new.items ≡ ports.old.items ++ named_by_line line.now) }
 {
-    push_within(ports, &line.requirement.within)?;
-    push_places(ports, places_of(&line.requirement.demand))
+    push_each(ports, &line.requirement.within, push_field)?;
+    push_each(ports, places_of(&line.requirement.demand), push_place)
 }
 
 // The ports that requirements name.
