@@ -111,7 +111,9 @@ quiet (Lookup t) h ts l = refl
 quiet (Act (actions.Group group)) h ts l = refl
 quiet (Act actions.DecNwTtl) h ts l = refl
 quiet (Act other) h ts l = absurd cc
-quiet other h ts l = absurd cc
+quiet (Do (Apply list)) h ts l = absurd cc
+quiet (Do other) h ts l = absurd cc
+quiet RunSet h ts l = absurd cc
 
 is_answered : (x : Work) (line : Step) → work_line x ≡ Some line → answer_to x ≡ Done
 is_answered (Lookup t) line h = absurd cc
