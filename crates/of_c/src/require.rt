@@ -2,7 +2,7 @@
 ghost use Rattle.std.specs.Prelude.{◌≡◌, ◌++◌, [], IfErr, IfOk, OnOk};
 ghost use Rattle.std.specs.List.{flat_map};
 ghost use Rattle.of_files.specs.Switches.{AreFlowsOf, HasNoContents, ports_named, view_contents, whole_mode};
-ghost use Rattle.of_files.specs.{Contents.content_of, NamedPorts.ports_with};
+ghost use Rattle.of_files.specs.{Contents.content_of, NamedPorts.named_by_field, NamedPorts.ports_with};
 ghost use Rattle.of_c.specs.Requiring.{AreAnswered, AreTablesWith, DescribesWith, IsRequired, further_text, line_of_refused, missing_with, named_by_line, named_by_place, places_demanded as places_in, status_of_both as status_for, status_of_refused};
 ghost use Rattle.of_c.specs.Answers.{Gives};
 
@@ -14,6 +14,7 @@ use of_files::{
     Contents, FileSwitch, NoContents, PortList, WHOLE, file_switch, missing_ports, port_list,
     push_named, push_required_port, read_contents,
 };
+use of_oxm::MatchField;
 use of_paths::Destination;
 use of_replay::memory::MemorySink;
 use of_replay::{Ended, status};
@@ -50,10 +51,16 @@ fn push_place(ports: &mut Vec<u32>, place: &Destination) -> Result<(), AllocErro
     Ok(())
 }
 
+fn push_within(ports: &mut Vec<u32>, within: &[MatchField]) -> Result<(), AllocError>
+    ensures { OnOk result (ports.new.items ≡ ports.old.items ++ flat_map named_by_field within.now) }
+{
+    push_each(ports, within, push_required_port)
+}
+
 fn push_line(ports: &mut Vec<u32>, line: &Line) -> Result<(), AllocError>
     ensures { OnOk result (ports.new.items ≡ ports.old.items ++ named_by_line line.now) }
 {
-    push_each(ports, &line.requirement.within, push_required_port)?;
+    push_within(ports, &line.requirement.within)?;
     push_each(ports, places_of(&line.requirement.demand), push_place)
 }
 

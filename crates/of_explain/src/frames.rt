@@ -1,5 +1,6 @@
 //! The ways of frames in words.
 ghost use Rattle.std.specs.Prelude.{◌≡◌, ◌++◌, IfErr, IfOk, OnOk, codes};
+ghost use Rattle.std.specs.List.{flat_map};
 ghost use Rattle.std.specs.Option.{option_copied};
 ghost use Rattle.of_switch.specs.{Steps.frame_in, declared.switch_error.SwitchError.TheVariants.NoMemory};
 ghost use Rattle.of_headers.specs.Faults.{frame_fault};
@@ -110,6 +111,13 @@ fn push_step(out: &mut Vec<u8>, step: Step) -> Result<(), AllocError>
     }
 }
 
+// Appends the notes of steps.
+fn push_steps(out: &mut Vec<u8>, steps: &[Step]) -> Result<(), AllocError>
+    ensures { OnOk result (out.new.items ≡ out.old.items ++ flat_map step_notes steps.now) }
+{
+    push_each(out, steps, |out, step| push_step(out, *step))
+}
+
 /// Appends the way that a frame would take next, and returns what it would give. Nothing changes.
 pub fn push_way<L: Lookup>(
     alloc: Global,
@@ -126,7 +134,7 @@ pub fn push_way<L: Lookup>(
     let effects = switch.dry_run(number, frame, &mut log)?;
     let port = switch.datapath().ports.port(number);
     push_arrival(out, port, number, frame)?;
-    push_each(out, &log.list, |out, step| push_step(out, *step))?;
+    push_steps(out, &log.list)?;
     Ok(effects)
 }
 

@@ -1,5 +1,6 @@
 //! Frames as words.
 ghost use Rattle.std.specs.Prelude.{◌≡◌, ◌≤◌, ◌<◌, ◌^◌, ◌++◌, length, option_map, IfOk, OnOk};
+ghost use Rattle.std.specs.List.{flat_map};
 ghost use Rattle.of_headers.specs.FieldMap.{value as value_in};
 ghost use Rattle.of_frames.specs.Given.{or_zero};
 ghost use Rattle.of_frame_words.specs.Printed.{AreRead, field_said, frame_words_of, is_read_as, printed_word as printed_word_of, protocol_said, shape_said, some_if, ttl_said, words_for, words_with};
@@ -129,6 +130,14 @@ fn push_ttl(out: &mut Vec<u8>, ttl: Option<u8>) -> Result<(), AllocError>
     }
 }
 
+fn push_fields(out: &mut Vec<u8>, fields: &[Field], key: &FieldKey) -> Result<(), AllocError>
+    ensures { OnOk result (out.new.items ≡ out.old.items ++ flat_map (λ f. field_said f (or_zero (value_in key.now) f)) fields.now) }
+{
+    push_each(out, fields, |out, field| {
+        push_field(out, *field, value_of(key, *field))
+    })
+}
+
 // The words for the fields and the TTL of a frame.
 #[tactic(auto, unfolding(crate::specs::Printed::words_with))]
 fn words_of(
@@ -143,9 +152,7 @@ fn words_of(
     out.extend_from_slice(b"in_port=")?;
     push_decimal(&mut out, u128::from(port))?;
     push_protocol(&mut out, key)?;
-    push_each(&mut out, &FURTHER_FIELDS, |out, field| {
-        push_field(out, *field, value_of(key, *field))
-    })?;
+    push_fields(&mut out, &FURTHER_FIELDS, key)?;
     push_ttl(&mut out, ttl)?;
     Ok(out)
 }

@@ -14,6 +14,7 @@ use of_paths::{Destination, PathClass};
 use of_switch::{Switch, SwitchError};
 use of_trace::{push_heading, push_step};
 use of_tracing::{Trace, trace};
+use of_values::push_each;
 use std::alloc::{AllocError, Global};
 
 /// The steps of the frame of a class.
@@ -64,8 +65,8 @@ fn push_class_words<L: Lookup>(
     push_further(out, &class.paths)
 }
 
-/// Appends a class, if its paths lead to the place that is asked for, or none is.
-pub fn push_shown<L: Lookup>(
+// Appends a class, if its paths lead to the place that is asked for, or none is.
+fn push_shown<L: Lookup>(
     alloc: Global,
     out: &mut Vec<u8>,
     switch: &Switch<L>,
@@ -78,4 +79,19 @@ pub fn push_shown<L: Lookup>(
         push_class_words(alloc, out, switch, class)?;
     }
     Ok(())
+}
+
+/// Appends classes, one block each, whose paths lead to the place that is asked for, if one is.
+pub fn push_classes<L: Lookup>(
+    alloc: Global,
+    out: &mut Vec<u8>,
+    switch: &Switch<L>,
+    to: Option<Destination>,
+    classes: &[PathClass],
+) -> Result<(), AllocError>
+    ensures { OnOk result (out.new.items ≡ out.old.items ++ flat_map (shown_words switch.now.core.forwarding to) classes.now) }
+{
+    push_each(out, classes, |out, class| {
+        push_shown(alloc, out, switch, to, class)
+    })
 }

@@ -5,7 +5,7 @@ ghost use Rattle.of_replay.specs.FileRuns.{Writes, ended_as};
 ghost use Rattle.of_paths_report.specs.{PathsFiles.IsPathsReport, PathsFiles.paths_text, PathsFiles.paths_verdict, PathsWords.paths_words};
 
 use crate::asked::{Asked, asked_paths};
-use crate::classes::push_shown;
+use crate::classes::push_classes;
 use crate::json::paths_as_json;
 use crate::undecided::{push_path_summary, push_undecided_frames};
 use of_classifier::Lookup;
@@ -44,9 +44,7 @@ fn paths_in_words<L: Lookup>(
     ensures { IfOk result (λ text. text.items ≡ paths_words switch.now.core.forwarding to found.now) }
 {
     let mut out = Vec::new(alloc);
-    push_each(&mut out, &found.classes, |out, class| {
-        push_shown(alloc, out, switch, to, class)
-    })?;
+    push_classes(alloc, &mut out, switch, to, &found.classes)?;
     push_undecided_frames(&mut out, &found.undecided)?;
     push_path_summary(&mut out, to, found)?;
     Ok(out)

@@ -1,5 +1,6 @@
 //! The report on the flows of a file of ovs-ofctl.
 ghost use Rattle.std.specs.Prelude.{◌≡◌, ◌<◌, ◌↔◌, ◌++◌, length, filter, slice_get, IfOk, OnOk};
+ghost use Rattle.std.specs.List.{flat_map};
 ghost use Rattle.of_replay.specs.FileRuns.{Writes, ended_as};
 ghost use Rattle.of_report.specs.Shadowing.{IsShadowReport, conditions_line, listed_flow_at, flow_name, flow_never_words, flow_open_words, flow_report, flow_win_words, flow_wins_if, has_conditions, indented_flow, unreachable_line};
 
@@ -52,6 +53,17 @@ fn push_indented(out: &mut Vec<u8>, flows: &[ListedFlow], place: usize) -> Resul
     Ok(())
 }
 
+// Appends the flows at these places, a line each.
+fn push_all_indented(
+    out: &mut Vec<u8>,
+    flows: &[ListedFlow],
+    places: &[usize],
+) -> Result<(), AllocError>
+    ensures { OnOk result (out.new.items ≡ out.old.items ++ flat_map (indented_flow flows.now) places.now) }
+{
+    push_each(out, places, |out, place| push_indented(out, flows, *place))
+}
+
 // Appends a flow that never wins.
 #[tactic(auto, unfolding(crate::specs::Shadowing::flow_never_words))]
 fn push_never(out: &mut Vec<u8>, flows: &[ListedFlow], finding: &Finding) -> Result<(), AllocError>
@@ -61,7 +73,7 @@ fn push_never(out: &mut Vec<u8>, flows: &[ListedFlow], finding: &Finding) -> Res
         Verdict::Never { by, tie } => {
             push_flow_at(out, flows, finding.place)?;
             push_reason(out, *tie)?;
-            push_each(out, by, |out, place| push_indented(out, flows, *place))
+            push_all_indented(out, flows, by)
         }
         Verdict::Unreceived => {
             push_flow_at(out, flows, finding.place)?;
@@ -69,6 +81,19 @@ fn push_never(out: &mut Vec<u8>, flows: &[ListedFlow], finding: &Finding) -> Res
         }
         Verdict::Wins { .. } | Verdict::Open => Ok(()),
     }
+}
+
+// Appends the flows that never win.
+fn push_never_flows(
+    out: &mut Vec<u8>,
+    flows: &[ListedFlow],
+    findings: &[Finding],
+) -> Result<(), AllocError>
+    ensures { OnOk result (out.new.items ≡ out.old.items ++ flat_map (λ f. flow_never_words flows.now f.place f.verdict) findings.now) }
+{
+    push_each(out, findings, |out, finding| {
+        push_never(out, flows, finding)
+    })
 }
 
 // Appends a flow that was not decided.
@@ -83,6 +108,19 @@ fn push_open(out: &mut Vec<u8>, flows: &[ListedFlow], finding: &Finding) -> Resu
         }
         Verdict::Wins { .. } | Verdict::Never { .. } | Verdict::Unreceived => Ok(()),
     }
+}
+
+// Appends the flows that were not decided.
+fn push_open_flows(
+    out: &mut Vec<u8>,
+    flows: &[ListedFlow],
+    findings: &[Finding],
+) -> Result<(), AllocError>
+    ensures { OnOk result (out.new.items ≡ out.old.items ++ flat_map (λ f. flow_open_words flows.now f.place f.verdict) findings.now) }
+{
+    push_each(out, findings, |out, finding| {
+        push_open(out, flows, finding)
+    })
 }
 
 // Appends a flow that wins.
@@ -173,12 +211,8 @@ fn report_of(
 {
     let mut out = Vec::new(alloc);
     push_conditions(&mut out, flows)?;
-    push_each(&mut out, findings, |out, finding| {
-        push_never(out, flows, finding)
-    })?;
-    push_each(&mut out, findings, |out, finding| {
-        push_open(out, flows, finding)
-    })?;
+    push_never_flows(&mut out, flows, findings)?;
+    push_open_flows(&mut out, flows, findings)?;
     push_each(&mut out, tables, push_unreachable)?;
     push_summary(&mut out, findings)?;
     push_win_flows_if(alloc, &mut out, all, words, flows, findings)?;

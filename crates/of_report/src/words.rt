@@ -1,6 +1,6 @@
 //! Findings in words.
 ghost use Rattle.std.specs.Prelude.{◌≡◌, ◌++◌, OnOk};
-ghost use Rattle.of_report.specs.Report.{never_words, open_words, tie_words, shadow_line, unreceived_words, win_words};
+ghost use Rattle.of_report.specs.Report.{never_words, of_findings, open_words, tie_words, shadow_line, shadow_lines, unreceived_words, win_words};
 ghost use Rattle.of_values.specs.Origins.{view_origins};
 
 use crate::entries::push_entry;
@@ -50,9 +50,24 @@ fn push_shadow(
     Ok(())
 }
 
-/// Appends an entry that never wins.
+// Appends the entries that shadow another one, a line each.
+fn push_shadows(
+    out: &mut Vec<u8>,
+    config: &Config,
+    origins: &[Vec<Origin>],
+    table: u8,
+    places: &[usize],
+) -> Result<(), AllocError>
+    ensures { OnOk result (out.new.items ≡ out.old.items ++ shadow_lines (view_origins origins.now) config.now.tables table places.now) }
+{
+    push_each(out, places, |out, place| {
+        push_shadow(out, config, origins, table, *place)
+    })
+}
+
+// Appends an entry that never wins.
 #[tactic(auto, unfolding(crate::specs::Report::never_words))]
-pub fn push_never(
+fn push_never(
     out: &mut Vec<u8>,
     config: &Config,
     origins: &[Vec<Origin>],
@@ -65,9 +80,7 @@ pub fn push_never(
         Verdict::Never { by, tie } => {
             push_entry(out, config, origins, finding.table, finding.place)?;
             push_reason(out, *tie)?;
-            push_each(out, by, |out, place| {
-                push_shadow(out, config, origins, finding.table, *place)
-            })
+            push_shadows(out, config, origins, finding.table, by)
         }
         Verdict::Unreceived => {
             push_entry(out, config, origins, finding.table, finding.place)?;
@@ -77,9 +90,23 @@ pub fn push_never(
     }
 }
 
-/// Appends an entry that was not decided.
+/// Appends the entries that never win.
+pub fn push_nevers(
+    out: &mut Vec<u8>,
+    config: &Config,
+    origins: &[Vec<Origin>],
+    findings: &[Finding],
+) -> Result<(), AllocError>
+    ensures { OnOk result (out.new.items ≡ out.old.items ++ of_findings (never_words (view_origins origins.now) config.now.tables) findings.now) }
+{
+    push_each(out, findings, |out, finding| {
+        push_never(out, config, origins, finding)
+    })
+}
+
+// Appends an entry that was not decided.
 #[tactic(auto, unfolding(crate::specs::Report::open_words))]
-pub fn push_open(
+fn push_open(
     out: &mut Vec<u8>,
     config: &Config,
     origins: &[Vec<Origin>],
@@ -95,6 +122,20 @@ pub fn push_open(
         }
         Verdict::Wins { .. } | Verdict::Never { .. } | Verdict::Unreceived => Ok(()),
     }
+}
+
+/// Appends the entries that were not decided.
+pub fn push_opens(
+    out: &mut Vec<u8>,
+    config: &Config,
+    origins: &[Vec<Origin>],
+    findings: &[Finding],
+) -> Result<(), AllocError>
+    ensures { OnOk result (out.new.items ≡ out.old.items ++ of_findings (open_words (view_origins origins.now) config.now.tables) findings.now) }
+{
+    push_each(out, findings, |out, finding| {
+        push_open(out, config, origins, finding)
+    })
 }
 
 /// Appends an entry that wins, with a packet, in words if these are asked for.

@@ -1,5 +1,6 @@
 //! The report on requirements as XML, as JUnit writes the results of tests.
 ghost use Rattle.std.specs.{Prelude.◌≡◌, Prelude.◌++◌, Prelude.IfOk, Prelude.OnOk};
+ghost use Rattle.std.specs.List.{flat_map};
 ghost use Rattle.of_require.specs.{JUnit.outcome_element, JUnit.requirements_junit, JUnit.test_case, JUnit.xml_character, Words.why_decided};
 
 use crate::answers::{Answer, count};
@@ -33,6 +34,12 @@ fn push_character(out: &mut Vec<u8>, byte: u8) -> Result<(), AllocError>
     }
 }
 
+fn push_characters(out: &mut Vec<u8>, text: &[u8]) -> Result<(), AllocError>
+    ensures { OnOk result (out.new.items ≡ out.old.items ++ flat_map xml_character text.now) }
+{
+    push_each(out, text, |out, byte| push_character(out, *byte))
+}
+
 // Appends an element for a requirement that does not hold, with why.
 fn push_outcome(
     alloc: Global,
@@ -57,12 +64,18 @@ fn push_test_case(alloc: Global, out: &mut Vec<u8>, answer: &Answer) -> Result<(
     ensures { OnOk result (out.new.items ≡ out.old.items ++ test_case answer.now) }
 {
     put(out, &CASE, &[Number(answer.line.number as u128)])?;
-    push_each(out, &answer.line.text, |out, byte| {
-        push_character(out, *byte)
-    })?;
+    push_characters(out, &answer.line.text)?;
     out.extend_from_slice(b"'>")?;
     push_outcome(alloc, out, answer.verdict(), &answer.decision)?;
     out.extend_from_slice(b"</testcase>\n")
+}
+
+fn push_test_cases(alloc: Global, out: &mut Vec<u8>, answers: &[Answer]) -> Result<(), AllocError>
+    ensures { OnOk result (out.new.items ≡ out.old.items ++ flat_map test_case answers.now) }
+{
+    push_each(out, answers, |out, answer| {
+        push_test_case(alloc, out, answer)
+    })
 }
 
 /// The report on requirements as XML: a test case for each requirement, which has a failure if the requirement fails, and an error if it is undecided.
@@ -82,9 +95,7 @@ pub fn requirements_as_junit(alloc: Global, answers: &[Answer]) -> Result<Vec<u8
             Number(errors),
         ],
     )?;
-    push_each(&mut out, answers, |out, answer| {
-        push_test_case(alloc, out, answer)
-    })?;
+    push_test_cases(alloc, &mut out, answers)?;
     out.extend_from_slice(b"</testsuite>\n")?;
     Ok(out)
 }

@@ -1,5 +1,6 @@
 //! The report on requirements in words.
 ghost use Rattle.std.specs.Prelude.{◌≡◌, ◌==◌, ◌++◌, IfOk, OnOk, if◌then◌else◌};
+ghost use Rattle.std.specs.List.{flat_map};
 ghost use Rattle.of_require.specs.Words.{answer_words, is_told as is_told_by, requirements_summary, requirements_words, verdict_begun, verdict_line, why_decided};
 
 use crate::answers::{Answer, count};
@@ -93,6 +94,19 @@ fn push_answer(
     Ok(())
 }
 
+fn push_answers(
+    alloc: Global,
+    out: &mut Vec<u8>,
+    all: bool,
+    answers: &[Answer],
+) -> Result<(), AllocError>
+    ensures { OnOk result (out.new.items ≡ out.old.items ++ flat_map (answer_words all) answers.now) }
+{
+    push_each(out, answers, |out, answer| {
+        push_answer(alloc, out, all, answer)
+    })
+}
+
 fn plural<'a>(number: usize, one: &'a [u8], more: &'a [u8]) -> &'a [u8]
     ensures { result.now ≡ (if number == 1 then one.now else more.now) }
 {
@@ -132,9 +146,7 @@ pub fn requirements_in_words(
     ensures { IfOk result (λ text. text.items ≡ requirements_words all answers.now) }
 {
     let mut out = Vec::new(alloc);
-    push_each(&mut out, answers, |out, answer| {
-        push_answer(alloc, out, all, answer)
-    })?;
+    push_answers(alloc, &mut out, all, answers)?;
     push_summary(&mut out, answers)?;
     Ok(out)
 }
