@@ -1,9 +1,9 @@
 -- Groups of masks, and how they index the entries of a slab.
-use Rattle.std.specs.Prelude.{◌≡◌, ◌⊎◌, ℕ, ◌≤◌, Bool, true, Some, List, [], ◌∷◌, length, take, drop}
-use Rattle.std.specs.List.{Contains}
+use Rattle.std.specs.Prelude.{◌≡◌, ◌⊎◌, ℕ, ◌<◌, ◌≤◌, Bool, true, Some, List, [], ◌∷◌, length, take, drop, vec_len, vec_capacity}
+use Rattle.std.specs.{Global.Vec, List.Contains}
 use Rattle.slab.specs.Slab.{Slab, get}
 use Rattle.of_layers.specs.declared.field.Field.{Field}
-use Rattle.of_headers.specs.{FieldMap.value, declared.key.FieldKey.FieldKey}
+use Rattle.of_headers.specs.{FieldMap.value, declared.key.FieldKey.FieldKey, declared.mixer.Mixer.Mixer}
 use Rattle.of_oxm.specs.{NormalForm.IsMatch, declared.masks.FieldMask.FieldMask, Masks.looked_at, Masks.value_of, Masks.mask_at}
 use Rattle.of_mask_groups.specs.Cells.{key_digest, cell_at, AreOccupied, CellMore, CellLess}
 use Rattle.of_mask_groups.specs.{declared.entry.Entry.Entry, declared.group.Group.Group, Ranks.has_rank, Ranks.IsHighest}
@@ -78,6 +78,16 @@ pub record AreGrouped (entries : Slab Entry) (groups : List Group) : Type 0 wher
   pub each : (g : Group) → Contains groups g → IsGroup entries g
   pub complete : (n : ℕ) (e : Entry) → get entries n ≡ Some e → IsIndexed groups n e
   pub normal : (n : ℕ) (e : Entry) → get entries n ≡ Some e → IsMatch e.fields
+
+-- ---- the digests of masks
+
+-- the digest of a group's mask
+abbrev pub mask_digest : Mixer → Group → ℕ
+mask_digest secret g = key_digest secret g.mask.masks
+
+-- groups and digests have capacity for one more
+abbrev pub HaveRoom : Vec Group → Vec ℕ → Type 0
+HaveRoom groups digests = (vec_len groups < vec_capacity groups) × (vec_len digests < vec_capacity digests)
 
 -- ---- one group taken out
 

@@ -67,6 +67,7 @@ impl Group {
         key: &FieldKey,
         rank: Rank,
     ) -> Result<(), AllocError>
+        ensures mask { self.new.mask ≡ self.old.mask }
         ensures ok { OnOk result (HasMore self.old self.new (key_digest self.old.secret key.now) rank.priority rank.number) }
         ensures err { OnErr result (IsSame self.old self.new) }
     {

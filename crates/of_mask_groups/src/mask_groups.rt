@@ -1,8 +1,8 @@
 //! The classifier by groups of masks.
-ghost use Rattle.std.specs.Prelude.{◌≡◌, ℕ, ◌<◌, ◌≤◌, IsTrue, Some, None, IfOk, OnErr, length, slice_index_or, vec_len, vec_capacity};
+ghost use Rattle.std.specs.Prelude.{◌≡◌, ◌<◌, ◌≤◌, IsTrue, Some, None, IfOk, OnErr, length, slice_index_or};
 ghost use Rattle.of_layers.specs.declared.field.Field.{Field};
 ghost use Rattle.of_oxm.specs.{Masks.looked_at, Masks.mask_at, NormalForm.IsMatch};
-ghost use Rattle.of_mask_groups.specs.{declared.group.Group.Group as AGroup, Covering.number_of_found, Aged.by_age, Aged.AreAged, Grouping.AreGrouped, Grouping.LooksLike};
+ghost use Rattle.of_mask_groups.specs.{declared.group.Group.Group as AGroup, Covering.number_of_found, Aged.by_age, Aged.AreAged, Grouping.AreGrouped, Grouping.HaveRoom, Grouping.LooksLike};
 ghost use Rattle.of_mask_groups.specs.Probing.{probes_of, reached};
 ghost use Rattle.slab.specs.Slab.{get, Updates, HasRoomFor};
 ghost use Rattle.of_headers.specs.FieldMap.{value};
@@ -10,8 +10,7 @@ ghost use Rattle.of_classifier.specs.{Winner.winner_of, Winner.winner_number as 
 
 use crate::entry::Entry;
 use crate::found::Found;
-use crate::group::Group;
-use crate::groups::{place_of, put_back, take_group};
+use crate::groups::{Groups, place_of, put_back, take_group};
 use crate::probing::{mask_of_groups, probe_groups};
 use crate::rank::Rank;
 use crate::renumbering::{next_age, set_age};
@@ -27,16 +26,14 @@ use std::marker::Model;
 #[derive(Drop)]
 pub struct MaskGroups {
     entries: Slab<Entry>,
-    groups: Vec<Group>,
+    groups: Groups,
     /// The age that was assigned last.
     last: u64,
     alloc: Global,
-    /// On which the digests of keys depend.
-    secret: Mixer,
 }
 
 impl Model for MaskGroups {
-    ghost use Rattle.std.specs.Prelude.{List, ◌+◌, ◌≤◌, vec_len, vec_capacity};
+    ghost use Rattle.std.specs.Prelude.{List, ◌+◌};
     ghost use Rattle.of_classifier.specs.declared.Row.{Row};
     ghost use Rattle.of_mask_groups.specs.{Aged.by_age, Aged.AreAged, Grouping.AreGrouped};
 
@@ -44,7 +41,7 @@ impl Model for MaskGroups {
 
     ghost view = { λ s. by_age (s.last + 1) s.entries.slots };
 
-    ghost invariant = { λ s. AreAged s.entries (s.last + 1) × AreGrouped s.entries s.groups.items × (vec_len s.groups ≤ vec_capacity s.groups) };
+    ghost invariant = { λ s. AreAged s.entries (s.last + 1) × AreGrouped s.entries s.groups.list.items };
 }
 
 impl MaskGroups {
@@ -54,7 +51,7 @@ impl MaskGroups {
         ensures winner { result.0 ≡ number_of_row (winner_of self.now (value key.now)) }
         ensures probes { result.1 ≡ probes_of self.now (value key.now) }
     {
-        let (best, probes) = probe_groups(&self.entries, &self.groups, key);
+        let (best, probes) = probe_groups(&self.entries, &self.groups.list, key);
         (number_of(best), probes)
     }
 }
@@ -67,10 +64,9 @@ impl Lookup for MaskGroups {
     fn empty(alloc: Global, seed: u64) -> Result<Self, AllocError> {
         Ok(MaskGroups {
             entries: Slab::new(alloc),
-            groups: Vec::new(alloc),
+            groups: Groups::empty(alloc, Mixer::new(seed)),
             last: 0,
             alloc,
-            secret: Mixer::new(seed),
         })
     }
 
@@ -83,8 +79,8 @@ impl Lookup for MaskGroups {
     }
 
     fn region(&self, key: &FieldKey) -> (Option<usize>, FieldMask) {
-        let (best, probes) = probe_groups(&self.entries, &self.groups, key);
-        (number_of(best), mask_of_groups(&self.groups[..probes]))
+        let (best, probes) = probe_groups(&self.entries, &self.groups.list, key);
+        (number_of(best), mask_of_groups(&self.groups.list[..probes]))
     }
 
     fn priority(&self, number: usize) -> Option<u16> {
@@ -102,24 +98,11 @@ impl Lookup for MaskGroups {
             age,
             fields,
         };
-        let secret = self.secret;
-        add_entry(
-            &mut self.entries,
-            &mut self.groups,
-            self.alloc,
-            entry,
-            secret,
-        )
+        add_entry(&mut self.entries, &mut self.groups, self.alloc, entry)
     }
 
     fn take(&mut self, number: usize) {
-        take_entry(
-            &mut self.entries,
-            &mut self.groups,
-            self.alloc,
-            number,
-            self.secret,
-        );
+        take_entry(&mut self.entries, &mut self.groups, self.alloc, number);
     }
 
     fn same(&self, fields: &Match, priority: u16) -> Option<usize> {
@@ -140,76 +123,71 @@ impl Lookup for MaskGroups {
 // Inserts an entry, and returns its number. Where memory runs out the entries stay as they were.
 fn add_entry(
     entries: &mut Slab<Entry>,
-    groups: &mut Vec<Group>,
+    groups: &mut Groups,
     alloc: Global,
     entry: Entry,
-    secret: Mixer,
 ) -> Result<usize, AllocError>
-    requires grouped { AreGrouped entries.old groups.old.items }
-    requires held { vec_len groups.old ≤ vec_capacity groups.old }
+    requires grouped { AreGrouped entries.old groups.old.list.items }
     ensures vacant { IfOk result (λ number. get entries.old number ≡ None) }
     ensures updates { IfOk result (λ number. Updates entries.old entries.new number (Some entry)) }
     ensures err { OnErr result (entries.new.slots ≡ entries.old.slots) }
-    ensures grouped { AreGrouped entries.new groups.new.items }
-    ensures held { vec_len groups.new ≤ vec_capacity groups.new }
+    ensures grouped { AreGrouped entries.new groups.new.list.items }
 {
     entries.reserve(1)?;
-    groups.reserve(1)?;
-    insert_entry(entries, groups, alloc, entry, secret)
+    groups.reserve()?;
+    insert_entry(entries, groups, alloc, entry)
 }
 
 // The same where there is capacity in both lists.
 fn insert_entry(
     entries: &mut Slab<Entry>,
-    groups: &mut Vec<Group>,
+    groups: &mut Groups,
     alloc: Global,
     entry: Entry,
-    secret: Mixer,
 ) -> Result<usize, AllocError>
-    requires grouped { AreGrouped entries.old groups.old.items }
+    requires grouped { AreGrouped entries.old groups.old.list.items }
     requires room { HasRoomFor entries.old 1 }
-    requires group_room { vec_len groups.old < vec_capacity groups.old }
+    requires group_room { HaveRoom groups.old.list groups.old.digests }
     ensures vacant { IfOk result (λ number. get entries.old number ≡ None) }
     ensures updates { IfOk result (λ number. Updates entries.old entries.new number (Some entry)) }
     ensures err { OnErr result (entries.new ≡ entries.old) }
-    ensures grouped { AreGrouped entries.new groups.new.items }
-    ensures held { vec_len groups.new ≤ vec_capacity groups.new }
+    ensures grouped { AreGrouped entries.new groups.new.list.items }
 {
     entry.fields.known();
     let mask = mask_of(&entry.fields);
     match place_of(groups, &mask) {
-        Some(place) if entry.priority <= groups[place].best => {
+        Some(place) if entry.priority <= groups.list[place].best => {
             insert_in_place(entries, groups, alloc, entry, place)
         }
-        _ => insert_apart(entries, groups, alloc, entry, &mask, secret),
+        _ => insert_apart(entries, groups, alloc, entry, &mask),
     }
 }
 
 // The same into the group at a place, which is of the entry's mask, and has an entry of at least its priority: so it stays there.
 fn insert_in_place(
     entries: &mut Slab<Entry>,
-    groups: &mut [Group],
+    groups: &mut Groups,
     alloc: Global,
     entry: Entry,
     place: usize,
 ) -> Result<usize, AllocError>
-    requires grouped { AreGrouped entries.old groups.old }
+    requires grouped { AreGrouped entries.old groups.old.list.items }
     requires room { HasRoomFor entries.old 1 }
     requires normal { IsMatch entry.fields }
-    requires within { place < length groups.old }
-    requires looks { (g : AGroup) → slice_index_or groups.old place g ≡ g → LooksLike g entry }
-    requires low { (g : AGroup) → slice_index_or groups.old place g ≡ g → entry.priority ≤ g.best }
+    requires within { place < length groups.old.list.items }
+    requires looks { (g : AGroup) → slice_index_or groups.old.list.items place g ≡ g → LooksLike g entry }
+    requires low { (g : AGroup) → slice_index_or groups.old.list.items place g ≡ g → entry.priority ≤ g.best }
     ensures vacant { IfOk result (λ number. get entries.old number ≡ None) }
     ensures updates { IfOk result (λ number. Updates entries.old entries.new number (Some entry)) }
     ensures err { OnErr result (entries.new ≡ entries.old) }
-    ensures grouped { AreGrouped entries.new groups.new }
+    ensures grouped { AreGrouped entries.new groups.new.list.items }
 {
     let number = entries.vacant_key();
     let rank = Rank {
         priority: entry.priority,
         number,
     };
-    groups[place].insert(alloc, &key_of(&entry.fields), rank)?;
+    groups.list[place].insert(alloc, &key_of(&entry.fields), rank)?;
     entries.insert_reserved(entry);
     Ok(number)
 }
@@ -217,22 +195,20 @@ fn insert_in_place(
 // The same where the group of the entry's mask is new, or moves forward: it is taken out, and put back.
 fn insert_apart(
     entries: &mut Slab<Entry>,
-    groups: &mut Vec<Group>,
+    groups: &mut Groups,
     alloc: Global,
     entry: Entry,
     mask: &FieldMask,
-    secret: Mixer,
 ) -> Result<usize, AllocError>
-    requires grouped { AreGrouped entries.old groups.old.items }
+    requires grouped { AreGrouped entries.old groups.old.list.items }
     requires room { HasRoomFor entries.old 1 }
-    requires group_room { vec_len groups.old < vec_capacity groups.old }
+    requires group_room { HaveRoom groups.old.list groups.old.digests }
     requires normal { IsMatch entry.fields }
     requires mask { (f : Field) → mask_at mask.now f ≡ looked_at entry.fields f }
     ensures vacant { IfOk result (λ number. get entries.old number ≡ None) }
     ensures updates { IfOk result (λ number. Updates entries.old entries.new number (Some entry)) }
     ensures err { OnErr result (entries.new ≡ entries.old) }
-    ensures grouped { AreGrouped entries.new groups.new.items }
-    ensures held { vec_len groups.new ≤ vec_capacity groups.new }
+    ensures grouped { AreGrouped entries.new groups.new.list.items }
 {
     let key = key_of(&entry.fields);
     let number = entries.vacant_key();
@@ -240,7 +216,7 @@ fn insert_apart(
         priority: entry.priority,
         number,
     };
-    let mut group = take_group(groups, alloc, mask, secret);
+    let mut group = take_group(groups, alloc, mask);
     match group.insert(alloc, &key, rank) {
         Ok(()) => {
             entries.insert_reserved(entry);
@@ -257,18 +233,10 @@ fn insert_apart(
 }
 
 // Removes the entry of a number, if there is one.
-fn take_entry(
-    entries: &mut Slab<Entry>,
-    groups: &mut Vec<Group>,
-    alloc: Global,
-    number: usize,
-    secret: Mixer,
-)
-    requires grouped { AreGrouped entries.old groups.old.items }
-    requires held { vec_len groups.old ≤ vec_capacity groups.old }
+fn take_entry(entries: &mut Slab<Entry>, groups: &mut Groups, alloc: Global, number: usize)
+    requires grouped { AreGrouped entries.old groups.old.list.items }
     ensures updates { Updates entries.old entries.new number None }
-    ensures grouped { AreGrouped entries.new groups.new.items }
-    ensures held { vec_len groups.new ≤ vec_capacity groups.new }
+    ensures grouped { AreGrouped entries.new groups.new.list.items }
 {
     if let Some(entry) = entries.try_remove(number) {
         let key = key_of(&entry.fields);
@@ -276,7 +244,7 @@ fn take_entry(
             priority: entry.priority,
             number,
         };
-        let mut group = take_group(groups, alloc, &mask_of(&entry.fields), secret);
+        let mut group = take_group(groups, alloc, &mask_of(&entry.fields));
         group.remove(&key, rank);
         if !group.is_empty() {
             put_back(groups, group);

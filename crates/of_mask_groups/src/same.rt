@@ -5,26 +5,25 @@ ghost use Rattle.of_classifier.specs.{Rows.same_of, Winner.winner_number};
 ghost use Rattle.of_mask_groups.specs.{Aged.by_age, Aged.AreAged, Grouping.AreGrouped, SameEntry.IsOldestSame, SameEntry.older_same};
 
 use crate::entry::Entry;
-use crate::group::Group;
-use crate::groups::place_of;
+use crate::groups::{Groups, place_of};
 use of_oxm::{Match, key_of, mask_of};
 use slab::Slab;
 
 /// The number of the oldest entry of that match and priority: one probe.
 pub(crate) fn same_in(
     entries: &Slab<Entry>,
-    groups: &[Group],
+    groups: &Groups,
     fields: &Match,
     priority: u16,
 ) -> Option<usize>
-    requires { AreGrouped entries.now groups.now }
+    requires { AreGrouped entries.now groups.now.list.items }
     ensures { (next : ℕ) → AreAged entries.now next → result ≡ winner_number (same_of (by_age next entries.now.slots) fields.now priority) }
 {
     let mask = mask_of(fields);
     match place_of(groups, &mask) {
         Some(place) => {
             let mut probes = 0;
-            let numbers = groups[place].probe(&key_of(fields), &mut probes);
+            let numbers = groups.list[place].probe(&key_of(fields), &mut probes);
             oldest_same(entries, numbers, fields, priority)
         }
         None => None,

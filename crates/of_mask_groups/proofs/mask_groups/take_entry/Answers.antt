@@ -14,7 +14,7 @@ returns-then-not-is_empty-clause-grouped c =
     let h = c.remove.new.self in
     let a = c.take_group-group.ensures.split old c.requires.grouped in
     c.put_back.ensures.grouped new
-    (split_less old new c.take_group-group.new.groups.items g h c.key_of-key.result c.args.number e (sym c.in-Some.ensures.value) c.try_remove.ensures.updates
+    (split_less old new c.take_group-group.new.groups.list.items g h c.key_of-key.result c.args.number e (sym c.in-Some.ensures.value) c.try_remove.ensures.updates
     (looks_by g c.mask_of.result e c.take_group-group.ensures.mask c.mask_of.ensures) (asks_by c.key_of-key.result e c.key_of-key.ensures) c.remove.ensures a)
     (λ s. absurd (let f : true ≡ false = sym (c.is_empty.ensures.no s) ∙ c.if-not-is_empty.true in cc))
 
@@ -26,7 +26,7 @@ returns-in-Some-clause-grouped c =
     let g = c.take_group-group.result in
     let h = c.remove.new.self in
     let a = c.take_group-group.ensures.split old c.requires.grouped in
-    grouped_left new c.take_group-group.new.groups.items h
-    (split_less old new c.take_group-group.new.groups.items g h c.key_of-key.result c.args.number e (sym c.in-Some.ensures.value) c.try_remove.ensures.updates
+    grouped_left new c.take_group-group.new.groups.list.items h
+    (split_less old new c.take_group-group.new.groups.list.items g h c.key_of-key.result c.args.number e (sym c.in-Some.ensures.value) c.try_remove.ensures.updates
     (looks_by g c.mask_of.result e c.take_group-group.ensures.mask c.mask_of.ensures) (asks_by c.key_of-key.result e c.key_of-key.ensures) c.remove.ensures a)
     (c.is_empty.ensures.yes c.if-not-is_empty.false)

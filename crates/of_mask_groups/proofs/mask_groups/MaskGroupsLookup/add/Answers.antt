@@ -6,7 +6,7 @@ pub invariant_of-self : goal.invariant_of-self
 invariant_of-self c =
     let x = c.next_age-age.ensures in
     let y = c.add_entry.ensures in
-    (added_aged c.next_age-age.new.entries c.add_entry.new.entries c.next_age-age.result (record { priority = c.args.priority; age = c.next_age-age.result; fields = c.args.fields }) c.add_entry.result x.aged refl y.updates y.err, y.grouped, y.held)
+    (added_aged c.next_age-age.new.entries c.add_entry.new.entries c.next_age-age.result (record { priority = c.args.priority; age = c.next_age-age.result; fields = c.args.fields }) c.add_entry.result x.aged refl y.updates y.err, y.grouped)
 
 pub returns-clause-ok : goal.returns-clause-ok
 returns-clause-ok c =

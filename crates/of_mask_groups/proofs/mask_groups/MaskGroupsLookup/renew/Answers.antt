@@ -17,8 +17,7 @@ invariant_of-self c =
     let e = aged_entry age d.0 in
     let u : Updates mid c.set_age.new.entries n (Some e) = subst (λ (s : Slab Entry). Updates mid s n (Some e)) (sym (c.set_age.ensures d.0 d.1)) (updates_with mid n d.0 e d.1) in (
       aged_more mid c.set_age.new.entries age n e x.aged u refl,
-      grouped_renewed mid c.set_age.new.entries c.self.inside.groups.items n d.0 e d.1 u refl refl (x.grouped c.self.inside.groups.items c.self.invariant.1),
-      c.self.invariant.2,
+      grouped_renewed mid c.set_age.new.entries c.self.inside.groups.list.items n d.0 e d.1 u refl refl (x.grouped c.self.inside.groups.list.items c.self.invariant.1),
     )
 
 pub returns : goal.returns
