@@ -1,6 +1,6 @@
 //! Requirements of the switch of a file.
+use crate::contents::NoFile;
 use crate::faults::requirement_fault;
-use crate::files::{NoFile, bytes_of};
 use crate::lookups::Lookups;
 use crate::screen::Screen;
 use of_check::required_port;
@@ -38,17 +38,16 @@ fn say_refusal(rt: &HostRuntime, path: &str, bytes: &[u8], line: usize, refusal:
     }
 }
 
-/// The requirements of a file; if it has none, standard error says which line is at fault.
-pub fn read_required(rt: &HostRuntime, path: &str) -> Result<Vec<Line>, NoFile> {
-    let bytes = bytes_of(rt, path)?;
-    let NoRequirements { line, why } = match read_requirements(rt.alloc(), &bytes) {
+/// The requirements of a file with these bytes; if it has none, standard error says which line is at fault.
+pub fn required_in(rt: &HostRuntime, path: &str, bytes: &[u8]) -> Result<Vec<Line>, NoFile> {
+    let NoRequirements { line, why } = match read_requirements(rt.alloc(), bytes) {
         Ok(lines) => return Ok(lines),
         Err(refused) => refused,
     };
     match why {
         NoRequirement::NoMemory => Err(NoFile::ended(rt.alloc(), Ended::NoMemory)),
         NoRequirement::Refused(refusal) => {
-            say_refusal(rt, path, &bytes, line, &refusal);
+            say_refusal(rt, path, bytes, line, &refusal);
             let fault = requirement_fault(rt.alloc(), line, refusal);
             Err(NoFile::Faults(fault.ok()))
         }
