@@ -1,4 +1,9 @@
 //! What the bytes of a file are read as, and the switch that they describe.
+ghost use Rattle.std.specs.Prelude.{◌≡◌, None, Some, IsTrue};
+ghost use Rattle.of_command_line.specs.declared.switch_file.FileKind.TheVariants.{Guessed, Flows, Events, Ovs};
+ghost use Rattle.of_files.specs.Contents.{content_of as content_in};
+ghost use Rattle.of_files.specs.declared.contents.Content.TheVariants.{EventFile, FlowText, OvsTable};
+
 use crate::faults::{Fault, import_fault};
 use crate::importing::{NotImported, say_no_import};
 use crate::left_out::{LeftCount, say_left_out};
@@ -50,7 +55,12 @@ pub struct FileRead {
 }
 
 /// What an option says that a file is, if one does.
-pub fn content_said(kind: FileKind) -> Option<Content> {
+pub fn content_said(kind: FileKind) -> Option<Content>
+    ensures guessed { kind ≡ Guessed → result ≡ None }
+    ensures flows { kind ≡ Flows → result ≡ Some FlowText }
+    ensures events { kind ≡ Events → result ≡ Some EventFile }
+    ensures ovs { kind ≡ Ovs → result ≡ Some OvsTable }
+{
     match kind {
         FileKind::Guessed => None,
         FileKind::Flows => Some(Content::FlowText),
@@ -65,7 +75,9 @@ fn has_actions(bytes: &[u8]) -> bool {
 }
 
 /// Whether a text is what ovs-ofctl prints, and not a flow text with a mistake in its first line.
-pub fn is_table(bytes: &[u8]) -> bool {
+pub fn is_table(bytes: &[u8]) -> bool
+    ensures { IsTrue result → content_in bytes.now ≡ OvsTable }
+{
     content_of(bytes) == Content::OvsTable && has_actions(bytes)
 }
 
@@ -95,7 +107,10 @@ pub fn refused_table(
 }
 
 /// How a table is read.
-pub fn mode_of(reading: &OvsReading) -> Mode {
+pub fn mode_of(reading: &OvsReading) -> Mode
+    ensures skip { result.skip ≡ reading.now.skip }
+    ensures renumber { result.renumber ≡ reading.now.renumber }
+{
     Mode {
         skip: reading.skip,
         renumber: reading.renumber,
