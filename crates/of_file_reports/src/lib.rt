@@ -1,5 +1,6 @@
-//! What the program prints about a file whose bytes were read: what is wrong with it or left out of it, the switch that it describes, and the
-//! reports of `import`, `trace`, `paths` and `check`; on a screen, which all commands use. It opens no file to read it.
+//! What the program prints about a file that was read: what is wrong with it, what is left out of it, and the reports of `import`, `trace`,
+//! `paths` and `check` on the switch that it describes. All commands print on its `Screen`. It opens no file except the one of `--junit`,
+//! which it writes.
 #![tactic(auto)]
 
 mod checking;
