@@ -89,10 +89,18 @@ def some_actions(pick):
     return pick.choice([",", ",", ",", ", ", " "]).join(words or ["drop"])
 
 
+def mistyped(pick, line):
+    """The line with one character too few, too many or another, or without its end."""
+    at = pick.randrange(len(line))
+    other = pick.choice("(),=:/ .0x-1f>")
+    return pick.choice([line[:at] + line[at + 1:], line[:at] + other + line[at:], line[:at] + other + line[at + 1:], line[: max(at, 1)], line.removesuffix(")")])
+
+
 def some_line(pick):
     words = [*(pick.choice(HEADS) for _ in range(pick.choice([0, 1, 1, 2]))), *some_match(pick)]
     told = pick.choice([",", ",", ",", ", ", " ", ",,", "\t"]).join(words)
-    return f"{told}{pick.choice([',', ' ', ', ']) if words else ''}{pick.choice(['actions='] * 8 + ['action=', 'actions= '])}{some_actions(pick)}"
+    line = f"{told}{pick.choice([',', ' ', ', ']) if words else ''}{pick.choice(['actions='] * 8 + ['action=', 'actions= '])}{some_actions(pick)}"
+    return mistyped(pick, line) if pick.random() < 0.2 else line
 
 
 class Recorder:

@@ -2,7 +2,7 @@
 ghost use Rattle.std.specs.Prelude.{◌≡◌, ◌++◌, [], IfErr, IfOk, OnOk};
 ghost use Rattle.std.specs.List.{flat_map};
 ghost use Rattle.of_files.specs.Switches.{AreFlowsOf, HasNoContents, ports_named, view_contents, whole_mode};
-ghost use Rattle.of_files.specs.{Contents.content_of, NamedPorts.named_by_field, NamedPorts.ports_with};
+ghost use Rattle.of_files.specs.{Contents.content_of, NamedPorts.ports_with};
 ghost use Rattle.of_c.specs.Requiring.{AreAnswered, AreTablesWith, DescribesWith, IsRequired, further_text, line_of_refused, missing_with, named_by_line, named_by_place, places_demanded as places_in, status_of_both as status_for, status_of_refused};
 ghost use Rattle.of_c.specs.Answers.{Gives};
 
@@ -10,12 +10,10 @@ use crate::answer::{Answer, BAD_FILE, NO_MEMORY, Outcome, give, sink, unread};
 use crate::check::{Tables, form_of};
 use crate::switch::Lookups;
 use crate::trace::status_with;
-use of_check::required_port;
 use of_files::{
     Contents, FileSwitch, NoContents, PortList, WHOLE, file_switch, missing_ports, port_list,
-    push_named, read_contents,
+    push_named, push_required_port, read_contents,
 };
-use of_oxm::MatchField;
 use of_paths::Destination;
 use of_replay::memory::MemorySink;
 use of_replay::{Ended, status};
@@ -24,6 +22,7 @@ use of_require::{
     Demand, Line, NoRequirement, NoRequirements, Verdict, answer_all, read_requirements,
     requirements_as_json, requirements_in_words, worst,
 };
+use of_values::push_each;
 use std::alloc::{AllocError, Global};
 
 const OUT_OF_MEMORY: Outcome = Outcome {
@@ -51,31 +50,11 @@ fn push_place(ports: &mut Vec<u32>, place: &Destination) -> Result<(), AllocErro
     Ok(())
 }
 
-fn push_places(ports: &mut Vec<u32>, places: &[Destination]) -> Result<(), AllocError>
-    ensures { OnOk result (ports.new.items ≡ ports.old.items ++ flat_map named_by_place places.now) }
-{
-    for place in places {
-        push_place(ports, place)?;
-    }
-    Ok(())
-}
-
-fn push_within(ports: &mut Vec<u32>, within: &[MatchField]) -> Result<(), AllocError>
-    ensures { OnOk result (ports.new.items ≡ ports.old.items ++ flat_map named_by_field within.now) }
-{
-    for field in within {
-        if let Some(port) = required_port(field) {
-            ports.push(port)?;
-        }
-    }
-    Ok(())
-}
-
 fn push_line(ports: &mut Vec<u32>, line: &Line) -> Result<(), AllocError>
     ensures { OnOk result (ports.new.items ≡ ports.old.items ++ named_by_line line.now) }
 {
-    push_within(ports, &line.requirement.within)?;
-    push_places(ports, places_of(&line.requirement.demand))
+    push_each(ports, &line.requirement.within, push_required_port)?;
+    push_each(ports, places_of(&line.requirement.demand), push_place)
 }
 
 // The ports that requirements name.

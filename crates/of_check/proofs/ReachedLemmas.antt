@@ -4,9 +4,9 @@ use Rattle.std.specs.Prelude.{map, ◌&&◌, ◌||◌, slice_index_or, IfSome, �
 use Rattle.std.{specs.List.AllByRecursion, specs.List.list_any, proofs.lemmas.Bool.eq-eqb, proofs.lemmas.Bool.eqb-true}
 use Rattle.of_wire.specs.declared.limits.TheConstants.{OFPP_TABLE}
 use Rattle.of_layers.specs.Reading.{layers_of}
-use Rattle.of_rewrite.specs.{declared.frame.Ttl.Ttl, declared.frame.Ttl.TheVariants.Done, declared.frame.Ttl.TheVariants.Expired, declared.frame.Ttl.TheVariants.Absent}
+use Rattle.of_rewrite.specs.{declared.frame.Ttl.Ttl, declared.frame.Ttl.TheVariants.Expired}
 use Rattle.of_rewrite.specs.TimeToLive.{ttl_of, dec_ttl_result}
-use Rattle.of_actions.specs.declared.action.Action.TheVariants.{Output, PushVlan, PopVlan, Group, SetNwTtl, DecNwTtl, SetField}
+use Rattle.of_actions.specs.declared.action.Action.TheVariants.{Output, Group, DecNwTtl}
 use Rattle.of_actions.specs.declared.instruction.Instruction.TheVariants.{Apply, Clear, Write, Metadata, Goto}
 use Rattle.of_actions.specs.{declared.action.Action.Action, declared.instruction.Instruction.Instruction}
 use Rattle.of_action_set.specs.Sets.{in_order}
@@ -69,10 +69,8 @@ lookup_in P w c p t at (Some n) = entry_in P w c p t n at (w.flow t n) refl
 
 do_in : (P : ℕ → Type 0) (p : Packet) (i : Instruction) (rest : List Work) → InstructionIn P i → WorkIn P rest → RowIn P (do_row p rest i)
 do_in P p (Apply l) rest i h = record { left = (acts_in P l rest h, tt); line = tt }
-do_in P p Clear rest i h = record { left = (h, tt); line = tt }
-do_in P p (Write l) rest i h = record { left = (h, tt); line = tt }
-do_in P p (Metadata value mask) rest i h = record { left = (h, tt); line = tt }
 do_in P p (Goto t) rest i h = record { left = ((i, tt), tt); line = tt }
+do_in P p other rest i h = record { left = (h, tt); line = tt }
 
 output_in : (P : ℕ → Type 0) → P 0 → (p : Packet) (rest : List Work) (a : Action) (e : Emitted) (line : Step) → IfSome (looked_up line) P → (b : Bool) → WorkIn P rest → RowIn P (if b then output_to_table_row p rest a else emits line e (task p rest ∷ []))
 output_in P first p rest a e line l true h = record { left = ((first, tt), (h, tt)); line = tt }
@@ -88,17 +86,13 @@ group_in P w p rest g (Some places) h = record { left = both (λ (t : Task). Wor
 
 ttl_in : (P : ℕ → Type 0) (p : Packet) (rest : List Work) (t : Ttl) → WorkIn P rest → RowIn P (dec_ttl_row p rest t)
 ttl_in P p rest Expired h = record { left = (tt, tt); line = tt }
-ttl_in P p rest Done h = record { left = (h, tt); line = tt }
-ttl_in P p rest Absent h = record { left = (h, tt); line = tt }
+ttl_in P p rest other h = record { left = (h, tt); line = tt }
 
 act_in : (P : ℕ → Type 0) (w : TheWorld) → IsClosed P w → (p : Packet) (a : Action) (rest : List Work) → WorkIn P rest → RowIn P (act_row w p rest a)
 act_in P w c p (Output port max_len) rest h = output_in P c.first p rest (Output port max_len) _ _ tt (port == OFPP_TABLE) h
 act_in P w c p (Group g) rest h = group_in P w p rest g (w.chosen g) h
 act_in P w c p DecNwTtl rest h = ttl_in P p rest (dec_ttl_result (ttl_of (layers_of p.frame))) h
-act_in P w c p (PushVlan type) rest h = record { left = (h, tt); line = tt }
-act_in P w c p PopVlan rest h = record { left = (h, tt); line = tt }
-act_in P w c p (SetNwTtl ttl) rest h = record { left = (h, tt); line = tt }
-act_in P w c p (SetField field value) rest h = record { left = (h, tt); line = tt }
+act_in P w c p other rest h = record { left = (h, tt); line = tt }
 
 row_in : (P : ℕ → Type 0) (w : TheWorld) → IsClosed P w → (p : Packet) (work : List Work) → WorkIn P work → RowIn P (row w p work)
 row_in P w c p [] h = record { left = tt; line = tt }

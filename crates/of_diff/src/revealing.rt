@@ -52,15 +52,15 @@ fn push_action(conditions: &mut Vec<MatchField>, action: &Action) -> Result<(), 
         Action::SetField { field, value } => {
             push_condition(conditions, with_other_value(*field, *value))
         }
-        Action::SetNwTtl(_) | Action::DecNwTtl => {
-            push_condition(conditions, with_bits(Field::Ipv4Dst, 0, 0))?;
-            push_condition(conditions, with_bits(Field::Ipv6Dst, 0, 0))
-        }
         Action::PushVlan(_) | Action::PopVlan => {
             push_condition(conditions, with_bits(Field::VlanVid, PRESENT, PRESENT))?;
             push_condition(conditions, with_bits(Field::VlanVid, PRESENT, 0))
         }
         Action::Output { .. } | Action::Group(_) => Ok(()),
+        _ => {
+            push_condition(conditions, with_bits(Field::Ipv4Dst, 0, 0))?;
+            push_condition(conditions, with_bits(Field::Ipv6Dst, 0, 0))
+        }
     }
 }
 

@@ -11,6 +11,7 @@ use of_report::{Origin, push_entry, push_entry_object};
 use of_switch::{Switch, SwitchError};
 use of_text::Config;
 use of_tracing::trace;
+use of_values::push_each;
 use of_wire::limits::TABLES;
 use std::alloc::{AllocError, Global};
 
@@ -180,10 +181,7 @@ pub fn push_hit_lines(
 ) -> Result<(), AllocError>
     ensures { OnOk result (out.new.items ≡ out.old.items ++ hit_lines who.now flows.now hits.now) }
 {
-    for hit in hits {
-        push_hit(out, who, flows, *hit)?;
-    }
-    Ok(())
+    push_each(out, hits, |out, hit| push_hit(out, who, flows, *hit))
 }
 
 /// Appends a further member: an array of the entries that a frame hits.

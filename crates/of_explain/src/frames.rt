@@ -1,6 +1,6 @@
 //! The ways of frames in words.
 ghost use Rattle.std.specs.Prelude.{◌≡◌, ◌++◌, IfErr, IfOk, OnOk, codes};
-ghost use Rattle.std.specs.{List.flat_map, Option.option_copied};
+ghost use Rattle.std.specs.Option.{option_copied};
 ghost use Rattle.of_switch.specs.{Steps.frame_in, declared.switch_error.SwitchError.TheVariants.NoMemory};
 ghost use Rattle.of_headers.specs.Faults.{frame_fault};
 ghost use Rattle.of_text.specs.Lines.{note};
@@ -15,6 +15,7 @@ use of_machine::{Step, Steps};
 use of_ports::Port;
 use of_switch::{Effect, Effects, Switch, SwitchError};
 use of_text::{begin_note, end_note, push_note};
+use of_values::push_each;
 use std::alloc::{AllocError, Global};
 
 // Why a port that exists receives no frame.
@@ -109,16 +110,6 @@ fn push_step(out: &mut Vec<u8>, step: Step) -> Result<(), AllocError>
     }
 }
 
-// Appends the notes of steps.
-fn push_steps(out: &mut Vec<u8>, steps: &[Step]) -> Result<(), AllocError>
-    ensures { OnOk result (out.new.items ≡ out.old.items ++ flat_map step_notes steps.now) }
-{
-    for step in steps {
-        push_step(out, *step)?;
-    }
-    Ok(())
-}
-
 /// Appends the way that a frame would take next, and returns what it would give. Nothing changes.
 pub fn push_way<L: Lookup>(
     alloc: Global,
@@ -135,7 +126,7 @@ pub fn push_way<L: Lookup>(
     let effects = switch.dry_run(number, frame, &mut log)?;
     let port = switch.datapath().ports.port(number);
     push_arrival(out, port, number, frame)?;
-    push_steps(out, &log.list)?;
+    push_each(out, &log.list, |out, step| push_step(out, *step))?;
     Ok(effects)
 }
 

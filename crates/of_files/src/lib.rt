@@ -14,7 +14,7 @@ pub use beginning::first_events;
 pub use contents::{Content, content_of};
 pub use flow_lines::text_origins;
 pub use playing::play_file;
-pub use ports::{FIRST_PORTS, missing_ports, named_ports, ports_for};
+pub use ports::{FIRST_PORTS, missing_ports, named_ports, ports_for, push_required_port};
 pub use switches::{
     Contents, Described, FileSwitch, NoContents, PortList, WHOLE, both_ports, describe, file_ports,
     file_switch, port_list, push_named, read_contents, switch_of,

@@ -1,6 +1,5 @@
 //! Frames as words.
 ghost use Rattle.std.specs.Prelude.{◌≡◌, ◌≤◌, ◌<◌, ◌^◌, ◌++◌, length, option_map, IfOk, OnOk};
-ghost use Rattle.std.specs.List.{flat_map};
 ghost use Rattle.of_headers.specs.FieldMap.{value as value_in};
 ghost use Rattle.of_frames.specs.Given.{or_zero};
 ghost use Rattle.of_frame_words.specs.Printed.{AreRead, field_said, frame_words_of, is_read_as, printed_word as printed_word_of, protocol_said, shape_said, some_if, ttl_said, words_for, words_with};
@@ -14,7 +13,7 @@ use of_frames::Shape;
 use of_headers::{Field, FieldKey, Known};
 use of_ovs_words::text_for;
 use of_rewrite::Frame;
-use of_values::{push_decimal, push_value_words};
+use of_values::{push_decimal, push_each, push_value_words};
 use std::alloc::{AllocError, Global};
 
 /// The fields that have words of their own, behind the port and the protocol.
@@ -79,15 +78,6 @@ fn value_of(key: &FieldKey, field: Field) -> u128
 }
 
 // Appends these fields, without those that are 0.
-fn push_fields(out: &mut Vec<u8>, fields: &[Field], key: &FieldKey) -> Result<(), AllocError>
-    ensures { OnOk result (out.new.items ≡ out.old.items ++ flat_map (λ f. field_said f (or_zero (value_in key.now) f)) fields.now) }
-{
-    for field in fields {
-        push_field(out, *field, value_of(key, *field))?;
-    }
-    Ok(())
-}
-
 // Appends the protocol of a frame with these headers, or its type.
 fn push_shape(
     out: &mut Vec<u8>,
@@ -153,7 +143,9 @@ fn words_of(
     out.extend_from_slice(b"in_port=")?;
     push_decimal(&mut out, u128::from(port))?;
     push_protocol(&mut out, key)?;
-    push_fields(&mut out, &FURTHER_FIELDS, key)?;
+    push_each(&mut out, &FURTHER_FIELDS, |out, field| {
+        push_field(out, *field, value_of(key, *field))
+    })?;
     push_ttl(&mut out, ttl)?;
     Ok(out)
 }

@@ -37,7 +37,7 @@ numbers_same Udp s t h =
     let c = word_same s t 8 4 h (omega arith) in
     let d = word_same s t 8 6 h (omega arith) in
     λ i. a i ∷ b i ∷ c i ∷ d i ∷ []
-numbers_same other s t h = 
+numbers_same other s t h =
     let a = h 0 (omega arith) in
     let b = h 1 (omega arith) in
     let c = word_same s t 4 2 h (omega arith) in

@@ -1,12 +1,11 @@
 //! Lines that are refused for their words, for standard error.
-ghost use Rattle.std.specs.Prelude.{◌≡◌, ◌++◌, IfOk, OnOk, take};
-ghost use Rattle.std.specs.List.{flat_map};
+ghost use Rattle.std.specs.Prelude.{◌≡◌, ◌++◌, IfOk, OnOk};
 ghost use Rattle.of_import_report.specs.FaultLines.{behind_colon, refused_word_line, first_words, words_of_refused_line};
 
 use crate::help::{help_of, reason_of};
 use of_import::LineFaults;
 use of_ovs_lines::WordFault;
-use of_values::{push_decimal, push_printable};
+use of_values::{push_decimal, push_each, push_printable};
 use std::alloc::{AllocError, Global};
 
 fn push_behind_colon(out: &mut Vec<u8>, words: &[u8]) -> Result<(), AllocError>
@@ -38,19 +37,11 @@ fn push_fault(out: &mut Vec<u8>, line: usize, fault: &WordFault) -> Result<(), A
 fn push_line(out: &mut Vec<u8>, it: &LineFaults) -> Result<(), AllocError>
     ensures { OnOk result (out.new.items ≡ out.old.items ++ words_of_refused_line it.now) }
 {
-    for fault in it.faults.iter() {
-        push_fault(out, it.line, fault)?;
-    }
-    Ok(())
-}
-
-fn push_lines(out: &mut Vec<u8>, faults: &[LineFaults]) -> Result<(), AllocError>
-    ensures { OnOk result (out.new.items ≡ out.old.items ++ flat_map words_of_refused_line faults.now) }
-{
-    for it in faults {
-        push_line(out, it)?;
-    }
-    Ok(())
+    push_each(
+        out,
+        &it.faults,
+        |out, fault| push_fault(out, it.line, fault),
+    )
 }
 
 /// The first lines that are refused for their words, so many at most: each word in a line of ASCII, with why it is refused and what helps.
@@ -59,6 +50,6 @@ pub fn fault_lines(alloc: Global, most: usize, faults: &[LineFaults]) -> Result<
     ensures { IfOk result (λ text. text.items ≡ first_words most faults.now) }
 {
     let mut out = Vec::new(alloc);
-    push_lines(&mut out, &faults[..most.min(faults.len())])?;
+    push_each(&mut out, &faults[..most.min(faults.len())], push_line)?;
     Ok(out)
 }

@@ -1,6 +1,6 @@
 -- PARTS OF JSON (RFC 8259). Strings have no characters that need an escape.
-use Rattle.std.specs.Prelude.{◌≡◌, ℕ, Bool, List, [], ◌∷◌, ◌++◌, Result, OnOk, codes, decimal, if◌then◌else◌}
-use Rattle.std.specs.{Borrow.Bor, Borrow.MutBor, Global.Vec, List.flat_map}
+use Rattle.std.specs.Prelude.{ℕ, Bool, List, [], ◌∷◌, ◌++◌, codes, decimal, if◌then◌else◌}
+use Rattle.std.specs.List.{flat_map}
 use Rattle.of_layers.specs.Fields.{name_of}
 use Rattle.of_oxm.specs.declared.match_field.MatchField.{MatchField}
 use Rattle.of_values.specs.Values.{value_words}
@@ -20,12 +20,6 @@ truth b = if b then codes "true" else codes "false"
 abbrev pub listed : {A : Type 0} → (A → List ℕ) → List A → List ℕ
 listed text [] = []
 listed text (x ∷ xs) = text x ++ flat_map (λ y. 44 ∷ text y) xs
-
--- a function appends the text of each item: a call that succeeds leaves what there was, and the text behind it.
--- `gives out item r left`: a call with `out` and the item may give r and leave `left`
-abbrev pub AppendsEach : {A E : Type 0} → (MutBor (Vec ℕ) → Bor A → Result Unit E → MutBor (Vec ℕ) → Type 0) → (A → List ℕ) → Type 0
-AppendsEach {A} {E} gives text =
-    (out : MutBor (Vec ℕ)) (item : Bor A) (r : Result Unit E) (left : MutBor (Vec ℕ)) → gives out item r left → OnOk r (left.now.items ≡ out.now.items ++ text item.now)
 
 -- further members of an object
 unfoldable pub number_member : List ℕ → ℕ → List ℕ

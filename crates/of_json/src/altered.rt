@@ -1,6 +1,5 @@
 //! What changed in a frame.
 ghost use Rattle.std.specs.Prelude.{◌≡◌, ◌++◌, IfOk, OnOk, true};
-ghost use Rattle.std.specs.List.{flat_map};
 ghost use Rattle.of_layers.specs.Reading.{layers_of};
 ghost use Rattle.of_headers.specs.FieldMap.{field_map, value};
 ghost use Rattle.of_rewrite.specs.TimeToLive.{ttl_of};
@@ -9,6 +8,7 @@ ghost use Rattle.of_json.specs.declared.altered.Property.TheVariants.{InField};
 
 use of_headers::{Field, FieldKey};
 use of_rewrite::Frame;
+use of_values::push_each;
 use std::alloc::{AllocError, Global};
 
 /// What may change in a frame.
@@ -74,26 +74,6 @@ fn add_change(
 }
 
 // Appends those of these fields whose values changed.
-fn add_fields(
-    changes: &mut Vec<Change>,
-    fields: &[Field],
-    before: &FieldKey,
-    after: &FieldKey,
-) -> Result<(), AllocError>
-    ensures { OnOk result (changes.new.items ≡
-        changes.old.items ++ flat_map (λ f. value_change (InField f) (value before.now f) (value after.now f)) fields.now) }
-{
-    for field in fields {
-        add_change(
-            changes,
-            Property::InField(*field),
-            before.get(*field),
-            after.get(*field),
-        )?;
-    }
-    Ok(())
-}
-
 fn number_of(ttl: Option<u8>) -> Option<u128>
     ensures { result ≡ ttl }
 {
@@ -118,7 +98,10 @@ fn changes_seen(alloc: Global, before: &Headers, after: &Headers) -> Result<Vec<
     ensures { IfOk result (λ changes. changes.items ≡ changes_between (value before.now.key) before.now.ttl (value after.now.key) after.now.ttl) }
 {
     let mut changes = Vec::new(alloc);
-    add_fields(&mut changes, &Field::ALL, &before.key, &after.key)?;
+    push_each(&mut changes, &Field::ALL, |changes, field| {
+        let (old, new) = (before.key.get(*field), after.key.get(*field));
+        add_change(changes, Property::InField(*field), old, new)
+    })?;
     add_change(&mut changes, Property::TimeToLive, before.ttl, after.ttl)?;
     Ok(changes)
 }

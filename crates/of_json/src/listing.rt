@@ -1,7 +1,8 @@
 //! Items with commas between them.
 ghost use Rattle.std.specs.Prelude.{◌≡◌, ◌++◌, ◌∷◌, ℕ, List, OnOk};
 ghost use Rattle.std.specs.List.{flat_map};
-ghost use Rattle.of_json.specs.{Parts.AppendsEach, Parts.listed, Strings.array_member};
+ghost use Rattle.of_values.specs.Each.{AppendsEach};
+ghost use Rattle.of_json.specs.{Parts.listed, Strings.array_member};
 
 use crate::strings::begin_array;
 use std::alloc::AllocError;

@@ -1,10 +1,9 @@
 //! Strings of JSON with any bytes.
 ghost use Rattle.std.specs.Prelude.{◌≡◌, ◌++◌, ◌∷◌, [], OnOk};
-ghost use Rattle.std.specs.List.{flat_map};
 ghost use Rattle.of_json.specs.{Parts.key, Strings.escaped, Strings.string, Strings.string_member};
 
 use crate::parts::push_key;
-use of_values::printable;
+use of_values::{printable, push_each};
 use std::alloc::AllocError;
 
 fn push_escaped(out: &mut Vec<u8>, byte: u8) -> Result<(), AllocError>
@@ -19,22 +18,13 @@ fn push_escaped(out: &mut Vec<u8>, byte: u8) -> Result<(), AllocError>
     Ok(())
 }
 
-fn push_all_escaped(out: &mut Vec<u8>, text: &[u8]) -> Result<(), AllocError>
-    ensures { OnOk result (out.new.items ≡ out.old.items ++ flat_map escaped text.now) }
-{
-    for byte in text {
-        push_escaped(out, *byte)?;
-    }
-    Ok(())
-}
-
 /// Appends a string.
 #[tactic(auto, unfolding(crate::specs::Strings::string))]
 pub fn push_string(out: &mut Vec<u8>, text: &[u8]) -> Result<(), AllocError>
     ensures { OnOk result (out.new.items ≡ out.old.items ++ string text.now) }
 {
     out.push(b'"')?;
-    push_all_escaped(out, text)?;
+    push_each(out, text, |out, byte| push_escaped(out, *byte))?;
     out.push(b'"')?;
     Ok(())
 }

@@ -5,8 +5,8 @@ use Rattle.of_formats.specs.declared.messages.Way.TheVariants.{Both, Neither, Re
 use Rattle.of_messages.specs.declared.message.FlowModCommand.{FlowModCommand}
 use Rattle.of_messages.specs.declared.message.FlowModCommand.TheVariants.{Add, Modify, Delete}
 
--- 7.2.5 and 5.10: the type of an action, and its place in the execution of an action set: POP_VLAN, PUSH_VLAN, DEC_NW_TTL, SET_NW_TTL, SET_FIELD (of the
--- field with number N at 4 + N), GROUP, OUTPUT
+-- 7.2.5 and 5.10: the type of an action, and its place in the execution of an action set: pops of a tag, pushes, decrements of the TTL, TTLs that are set, SET_FIELD
+-- (of the field with number N at 4 + N), GROUP, OUTPUT
 abbrev pub actions : List (ℕ × ℕ)
 actions = (0, 41) ∷ (17, 1) ∷ (18, 0) ∷ (22, 40) ∷ (23, 3) ∷ (24, 2) ∷ (25, 4) ∷ []
 

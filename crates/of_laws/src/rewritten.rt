@@ -11,7 +11,7 @@ pub fn fields_after_set()
         field_map (layers_of (frame_set f v frame)) port metadata g ≡ fields_set f v (field_map (layers_of frame) port metadata) g }
 {}
 
-/// SET_NW_TTL changes no field: the TTL and the hop limit are no match fields.
+/// A TTL that is set changes no field: the TTL and the hop limit are no match fields.
 pub fn fields_after_ttl()
     ensures { (v : ℕ) (frame : List ℕ) (port metadata : ℕ) (g : Field) → IsFrame frame →
         field_map (layers_of (frame_ttl v frame)) port metadata g ≡ field_map (layers_of frame) port metadata g }

@@ -96,10 +96,11 @@ may_follow s place =
     else if place == s.stage then Err whys.Twice
     else Ok tt
 
--- resubmit(,TABLE), as GOTO_TABLE
+-- resubmit(,TABLE), as GOTO_TABLE; it is an action, so no other instruction comes before it
 abbrev pub later_table : PartialFlow → List ℕ → Result ℕ Why
 later_table s value =
-    if not (length (before 44 value) == 0) then Err whys.Backward
+    if nat_lt 0 s.stage then Err whys.Order
+    else if not (length (before 44 value) == 0) then Err whys.Backward
     else table_in s.mode (behind 44 value) >>= λ n. if nat_lt s.head.table n then Ok n else Err whys.Backward
 
 -- to NORMAL or LOCAL

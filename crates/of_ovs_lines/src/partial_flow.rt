@@ -215,10 +215,13 @@ impl PartialFlow {
         }
     }
 
-    // The table of resubmit(,TABLE), as that of GOTO_TABLE.
+    // The table of resubmit(,TABLE), as that of GOTO_TABLE. No other instruction comes before this action.
     fn later_table(&self, value: &[u8]) -> Result<u8, Why>
         ensures { result ≡ later_table_of (view_partial_flow self.now) value.now }
     {
+        if 0 < self.stage {
+            return Err(Why::Order);
+        }
         let (port, table) = cut(value, b',');
         if !port.is_empty() {
             return Err(Why::Backward);

@@ -8,7 +8,7 @@ use crate::parts::push_named;
 use of_actions::Action;
 use of_layers::Field;
 use of_text::InstructionText;
-use of_values::{push_hexadecimal, push_port};
+use of_values::{push_each, push_hexadecimal, push_port};
 use of_wire::limits::OFPP_CONTROLLER;
 use std::alloc::AllocError;
 
@@ -58,14 +58,11 @@ fn push_action(out: &mut Vec<u8>, action: Action) -> Result<(), AllocError>
     }
 }
 
-fn push_further_actions(out: &mut Vec<u8>, actions: &[Action]) -> Result<(), AllocError>
-    ensures { OnOk result (out.new.items ≡ out.old.items ++ flat_map further_action_in_words actions.now) }
+fn push_further_action(out: &mut Vec<u8>, action: &Action) -> Result<(), AllocError>
+    ensures { OnOk result (out.new.items ≡ out.old.items ++ further_action_in_words action.now) }
 {
-    for action in actions {
-        out.push(b',')?;
-        push_action(out, *action)?;
-    }
-    Ok(())
+    out.push(b',')?;
+    push_action(out, *action)
 }
 
 /// Appends a list of actions.
@@ -77,7 +74,7 @@ pub fn push_actions(out: &mut Vec<u8>, actions: &[Action]) -> Result<(), AllocEr
         [] => out.extend_from_slice(b"drop"),
         [first, others @ ..] => {
             push_action(out, *first)?;
-            push_further_actions(out, others)
+            push_each(out, others, push_further_action)
         }
     }
 }

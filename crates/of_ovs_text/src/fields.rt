@@ -1,12 +1,12 @@
 //! Match fields in the words of `ovs-ofctl` (ovs-fields(7)).
-ghost use Rattle.std.specs.{Prelude.◌≡◌, Prelude.◌++◌, Prelude.OnOk, List.flat_map};
+ghost use Rattle.std.specs.{Prelude.◌≡◌, Prelude.◌++◌, Prelude.OnOk};
 ghost use Rattle.of_ovs_text.specs.Fields.{chosen_field_words, comes_first as comes_first_of_all, is_chosen as is_chosen_field, keyword_of, mask_behind_slash, match_in_words, ethertype_words, new_value_words, ovs_field_words, protocol_in_words, says_transport as says_such_transport, tag_words, ip_protocol_words};
 
 use crate::parts::push_named;
 use of_layers::{Field, Prerequisite};
 use of_ovs_words::text_for;
 use of_oxm::{MatchField, is_met};
-use of_values::{push_hexadecimal, push_value_words};
+use of_values::{push_each, push_hexadecimal, push_value_words};
 use of_wire::keyword;
 use std::alloc::AllocError;
 
@@ -201,26 +201,16 @@ fn push_if_chosen(
     }
 }
 
-fn push_chosen(
-    out: &mut Vec<u8>,
-    first: bool,
-    protocol: Option<Protocol>,
-    fields: &[MatchField],
-) -> Result<(), AllocError>
-    ensures { OnOk result (out.new.items ≡ out.old.items ++ flat_map (chosen_field_words first protocol) fields.now) }
-{
-    for e in fields {
-        push_if_chosen(out, first, protocol, e)?;
-    }
-    Ok(())
-}
-
 /// Appends a match.
 #[tactic(auto, unfolding(crate::specs::Fields::match_in_words))]
 pub fn push_match(out: &mut Vec<u8>, fields: &[MatchField]) -> Result<(), AllocError>
     ensures { OnOk result (out.new.items ≡ out.old.items ++ match_in_words fields.now) }
 {
     let protocol = protocol_of(fields);
-    push_chosen(out, true, protocol, fields)?;
-    push_chosen(out, false, protocol, fields)
+    push_each(out, fields, |out, e| push_if_chosen(out, true, protocol, e))?;
+    push_each(
+        out,
+        fields,
+        |out, e| push_if_chosen(out, false, protocol, e),
+    )
 }

@@ -7,7 +7,7 @@ use Rattle.of_layers.specs.declared.field.TheConstants.Field as constants
 use Rattle.of_oxm.specs.declared.match_field.MatchField.{MatchField}
 use Rattle.of_ovs_words.specs.Settings.{exact, field_for, setting_in, last_of, setting_under}
 use Rattle.of_ovs_words.specs.{declared.why.Why.Why, declared.protocol_word.ProtocolWord.ProtocolWord, declared.field_word.FieldWord.FieldWord, declared.field_word.Form.Form}
-use Rattle.of_ovs_words.specs.{declared.field_word.Form.TheVariants.Tci, Outcomes.value_or_why, Outcomes.one, Tci.tci_settings}
+use Rattle.of_ovs_words.specs.{declared.field_word.Form.TheVariants.Tci, Outcomes.◌>>=◌, Outcomes.value_or_why, Outcomes.one, Tci.tci_settings}
 use Rattle.of_ovs_words.specs.declared.why.Why.TheVariants as whys
 
 abbrev pub protocol_settings : Option ℕ → List MatchField

@@ -3,7 +3,7 @@ use Rattle.std.specs.Prelude.{ℕ, ◌/◌, ◌==◌, bit_and, List, length, Opt
 use Rattle.of_layers.specs.declared.field.Field.TheVariants.{VlanVid, VlanPcp}
 use Rattle.of_oxm.specs.declared.match_field.MatchField.{MatchField}
 use Rattle.of_lines.specs.Lines.{before, behind}
-use Rattle.of_ovs_words.specs.{declared.why.Why.Why, Outcomes.numbered, Settings.exact, Settings.masked}
+use Rattle.of_ovs_words.specs.{declared.why.Why.Why, Outcomes.◌>>=◌, Outcomes.numbered, Settings.exact, Settings.masked}
 use Rattle.of_ovs_words.specs.declared.why.Why.TheVariants as whys
 
 abbrev pub tci_mask : List ℕ → Result ℕ Why

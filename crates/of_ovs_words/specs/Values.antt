@@ -2,6 +2,7 @@
 use Rattle.std.specs.Prelude.{ℕ, ◌+◌, ◌-◌, ◌*◌, ◌/◌, ◌^◌, List, Option, Some}
 use Rattle.of_lines.specs.{Lines.before, Lines.behind}
 use Rattle.of_ovs_words.specs.Numbers.{some_digits}
+use Rattle.of_lines.specs.Reading.{◌>>=◌}
 
 -- 02:00:00:00:00:01
 abbrev pub mac_in : List ℕ → Option ℕ

@@ -1,5 +1,5 @@
 -- A LINE AS WORDS (ovs-ofctl(8)): commas and white space separate them, outside of parentheses.
-use Rattle.std.specs.Prelude.{ℕ, ◌+◌, ◌-◌, ◌==◌, ◌&&◌, ◌||◌, Bool, List, [], ◌∷◌, length, take, if◌then◌else◌}
+use Rattle.std.specs.Prelude.{ℕ, ◌+◌, ◌-◌, ◌==◌, ◌&&◌, ◌||◌, Bool, List, [], ◌∷◌, length, get_or, take, if◌then◌else◌}
 use Rattle.of_lines.specs.Lines.{prepended}
 
 -- a comma, a space, a tab, a CR
@@ -42,10 +42,14 @@ abbrev pub marked_in : List ℕ → List ℕ
 marked_in [] = []
 marked_in (b ∷ bs) = if is_mark b then b ∷ bs else marked_in bs
 
+-- what comes before the closing parenthesis, which may be missing at the end of a line
+abbrev pub enclosed : List ℕ → List ℕ
+enclosed bs = if get_or bs (length bs - 1) 0 == 41 then take (length bs - 1) bs else bs
+
 -- within parentheses, or after the mark
 abbrev pub unmarked : List ℕ → List ℕ
 unmarked [] = []
-unmarked (b ∷ bs) = if b == 40 then take (length bs - 1) bs else bs
+unmarked (b ∷ bs) = if b == 40 then enclosed bs else bs
 
 abbrev pub word_value : List ℕ → List ℕ
 word_value word = unmarked (marked_in word)

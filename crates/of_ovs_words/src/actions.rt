@@ -213,11 +213,7 @@ fn tags_after(count: usize, action: Action) -> usize
     match action {
         Action::PushVlan(_) => count.saturating_add(1).min(128),
         Action::PopVlan => count.saturating_sub(1),
-        Action::Output { .. }
-        | Action::Group(_)
-        | Action::SetNwTtl(_)
-        | Action::DecNwTtl
-        | Action::SetField { .. } => count,
+        _ => count,
     }
 }
 

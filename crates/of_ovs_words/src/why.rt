@@ -55,21 +55,3 @@ pub enum Why {
     #[error("needs icmp6")]
     NeedsIcmp6,
 }
-
-impl Why {
-    /// The word that gives a missing prerequisite.
-    pub fn missing_word(self) -> Option<&'static str> {
-        match self {
-            Why::NeedsTag => Some("dl_vlan=.."),
-            Why::NeedsIp | Why::NeedsIpv4 => Some("ip"),
-            Why::NeedsIpv6 => Some("ipv6"),
-            Why::NeedsArp => Some("arp"),
-            Why::NeedsTcp => Some("tcp"),
-            Why::NeedsUdp => Some("udp"),
-            Why::NeedsIcmp => Some("icmp"),
-            Why::NeedsIcmp6 => Some("icmp6"),
-            Why::Protocol => Some("tcp"),
-            _ => None,
-        }
-    }
-}

@@ -1,6 +1,6 @@
 //! A line as words.
 ghost use Rattle.std.specs.Prelude.{◌≡◌, ◌≤◌, ◌<◌, ◌^◌, ◌-◌, ◌==◌, ◌||◌, length, take, drop};
-ghost use Rattle.of_ovs_words.specs.Words.{after_word, depth_after as depth_behind, is_gap as is_gap_byte, is_mark as is_mark_byte, marked_in, word_name as name_in, unmarked as unmarked_in, word_value as value_in, word_in};
+ghost use Rattle.of_ovs_words.specs.Words.{after_word, depth_after as depth_behind, enclosed as enclosed_in, is_gap as is_gap_byte, is_mark as is_mark_byte, marked_in, word_name as name_in, unmarked as unmarked_in, word_value as value_in, word_in};
 
 /// Whether it stands between words.
 pub fn is_gap(byte: u8) -> bool
@@ -64,6 +64,16 @@ pub fn name_of(word: &[u8]) -> &[u8]
     &word[..name_end(word)]
 }
 
+// The closing parenthesis may be missing at the end of a line, as for ovs-ofctl.
+fn enclosed(value: &[u8]) -> &[u8]
+    ensures { result.now ≡ enclosed_in value.now }
+{
+    match value {
+        [inner @ .., b')'] => inner,
+        _ => value,
+    }
+}
+
 fn unmarked(marked: &[u8]) -> &[u8]
     ensures { result.now ≡ unmarked_in marked.now }
 {
@@ -71,7 +81,7 @@ fn unmarked(marked: &[u8]) -> &[u8]
         [] => marked,
         [mark, value @ ..] => {
             if *mark == b'(' {
-                &value[..value.len().saturating_sub(1)]
+                enclosed(value)
             } else {
                 value
             }

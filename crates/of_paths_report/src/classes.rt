@@ -64,20 +64,18 @@ fn push_class_words<L: Lookup>(
     push_further(out, &class.paths)
 }
 
-/// Appends classes, one block each, whose paths lead to the place that is asked for, if one is.
-pub fn push_classes<L: Lookup>(
+/// Appends a class, if its paths lead to the place that is asked for, or none is.
+pub fn push_shown<L: Lookup>(
     alloc: Global,
     out: &mut Vec<u8>,
     switch: &Switch<L>,
     to: Option<Destination>,
-    classes: &[PathClass],
+    class: &PathClass,
 ) -> Result<(), AllocError>
-    ensures { OnOk result (out.new.items ≡ out.old.items ++ flat_map (shown_words switch.now.core.forwarding to) classes.now) }
+    ensures { OnOk result (out.new.items ≡ out.old.items ++ shown_words switch.now.core.forwarding to class.now) }
 {
-    for class in classes {
-        if is_shown(class, to) {
-            push_class_words(alloc, out, switch, class)?;
-        }
+    if is_shown(class, to) {
+        push_class_words(alloc, out, switch, class)?;
     }
     Ok(())
 }

@@ -5,13 +5,14 @@ ghost use Rattle.of_replay.specs.FileRuns.{Writes, ended_as};
 ghost use Rattle.of_paths_report.specs.{PathsFiles.IsPathsReport, PathsFiles.paths_text, PathsFiles.paths_verdict, PathsWords.paths_words};
 
 use crate::asked::{Asked, asked_paths};
-use crate::classes::push_classes;
+use crate::classes::push_shown;
 use crate::json::paths_as_json;
 use crate::undecided::{push_path_summary, push_undecided_frames};
 use of_classifier::Lookup;
 use of_paths::{Destination, Paths};
 use of_replay::{Ended, Sink, write_all};
 use of_switch::Switch;
+use of_values::push_each;
 use std::alloc::{AllocError, Global};
 
 /// How the report on the frames that a switch receives is written.
@@ -43,7 +44,9 @@ fn paths_in_words<L: Lookup>(
     ensures { IfOk result (λ text. text.items ≡ paths_words switch.now.core.forwarding to found.now) }
 {
     let mut out = Vec::new(alloc);
-    push_classes(alloc, &mut out, switch, to, &found.classes)?;
+    push_each(&mut out, &found.classes, |out, class| {
+        push_shown(alloc, out, switch, to, class)
+    })?;
     push_undecided_frames(&mut out, &found.undecided)?;
     push_path_summary(&mut out, to, found)?;
     Ok(out)

@@ -15,6 +15,7 @@ use Rattle.of_switch.specs.declared.port_change.PortChange.TheVariants.{Add, Rem
 use Rattle.of_replay.specs.Lexing.{is_line, first_word, after_first_word, word_number, moment_of, hex_bytes, hw_of, name_in_word, state_of}
 use Rattle.of_replay.specs.declared.rows.Row.{Row}
 use Rattle.of_replay.specs.declared.rows.Row.TheVariants as row
+use Rattle.of_text.specs.Reading.{◌>>=◌}
 use Rattle.of_text.specs.Lines.{is_passed}
 
 abbrev pub chunk_row : List ℕ → Option Event

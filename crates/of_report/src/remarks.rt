@@ -6,7 +6,7 @@ ghost use Rattle.of_report.specs.Report.{report_group_words, is_finding as is_fi
 use crate::entries::push_entry;
 use of_check::Remark;
 use of_text::Config;
-use of_values::{Origin, push_decimal, push_port};
+use of_values::{Origin, push_decimal, push_each, push_port};
 use std::alloc::AllocError;
 
 // Whether a remark says that no packet comes to a table.
@@ -188,8 +188,7 @@ pub fn push_remarks(
     ensures { OnOk result (out.new.items ≡
         out.old.items ++ flat_map (reported_remark_line all remarks.now (view_origins origins.now) config.now.tables) remarks.now) }
 {
-    for remark in remarks {
-        push_line(out, config, origins, all, remarks, remark)?;
-    }
-    Ok(())
+    push_each(out, remarks, |out, remark| {
+        push_line(out, config, origins, all, remarks, remark)
+    })
 }

@@ -5,10 +5,10 @@ ghost use Rattle.of_values.specs.Origins.{view_origins};
 
 use crate::counting::{count_open, count_shadowed, count_wins};
 use crate::remarks::push_remarks;
-use crate::words::{push_nevers, push_opens, push_wins};
+use crate::words::{push_never, push_open, push_win};
 use of_check::{Finding, Remark};
 use of_text::Config;
-use of_values::{Origin, push_decimal};
+use of_values::{Origin, push_decimal, push_each};
 use std::alloc::{AllocError, Global};
 
 /// Appends a number, and words behind it.
@@ -45,7 +45,9 @@ fn push_wins_if(
     ensures { OnOk result (out.new.items ≡ out.old.items ++ wins_if all words (view_origins origins.now) config.now.tables findings.now) }
 {
     if all {
-        push_wins(alloc, out, words, config, origins, findings)?;
+        push_each(out, findings, |out, finding| {
+            push_win(alloc, out, words, config, origins, finding)
+        })?;
     }
     Ok(())
 }
@@ -65,8 +67,12 @@ pub fn words_of(
     ensures { IfOk result (λ text. text.items ≡ report_words all words (view_origins origins.now) config.now.tables findings.now remarks.now) }
 {
     let mut out = Vec::new(alloc);
-    push_nevers(&mut out, config, origins, findings)?;
-    push_opens(&mut out, config, origins, findings)?;
+    push_each(&mut out, findings, |out, finding| {
+        push_never(out, config, origins, finding)
+    })?;
+    push_each(&mut out, findings, |out, finding| {
+        push_open(out, config, origins, finding)
+    })?;
     push_remarks(&mut out, config, origins, all, remarks)?;
     push_summary(&mut out, findings)?;
     push_wins_if(alloc, &mut out, all, words, config, origins, findings)?;

@@ -1,6 +1,5 @@
 //! The report on the flows of a file of ovs-ofctl.
 ghost use Rattle.std.specs.Prelude.{◌≡◌, ◌<◌, ◌↔◌, ◌++◌, length, filter, slice_get, IfOk, OnOk};
-ghost use Rattle.std.specs.List.{flat_map};
 ghost use Rattle.of_replay.specs.FileRuns.{Writes, ended_as};
 ghost use Rattle.of_report.specs.Shadowing.{IsShadowReport, conditions_line, listed_flow_at, flow_name, flow_never_words, flow_open_words, flow_report, flow_win_words, flow_wins_if, has_conditions, indented_flow, unreachable_line};
 
@@ -12,7 +11,7 @@ use of_check::{Finding, Verdict};
 use of_replay::{Ended, Sink, write_all};
 use of_shadowing::{ListedFlow, check_flows, unreachable_tables};
 use of_values::Part::Number;
-use of_values::{push_counter_words, push_decimal, push_entry_words, put};
+use of_values::{push_counter_words, push_decimal, push_each, push_entry_words, put};
 use std::alloc::{AllocError, Global};
 
 pub const UNREACHABLE: [u8; 79] =
@@ -53,20 +52,6 @@ fn push_indented(out: &mut Vec<u8>, flows: &[ListedFlow], place: usize) -> Resul
     Ok(())
 }
 
-// Appends the flows at these places, a line each.
-fn push_all_indented(
-    out: &mut Vec<u8>,
-    flows: &[ListedFlow],
-    places: &[usize],
-) -> Result<(), AllocError>
-    ensures { OnOk result (out.new.items ≡ out.old.items ++ flat_map (indented_flow flows.now) places.now) }
-{
-    for place in places {
-        push_indented(out, flows, *place)?;
-    }
-    Ok(())
-}
-
 // Appends a flow that never wins.
 #[tactic(auto, unfolding(crate::specs::Shadowing::flow_never_words))]
 fn push_never(out: &mut Vec<u8>, flows: &[ListedFlow], finding: &Finding) -> Result<(), AllocError>
@@ -76,7 +61,7 @@ fn push_never(out: &mut Vec<u8>, flows: &[ListedFlow], finding: &Finding) -> Res
         Verdict::Never { by, tie } => {
             push_flow_at(out, flows, finding.place)?;
             push_reason(out, *tie)?;
-            push_all_indented(out, flows, by)
+            push_each(out, by, |out, place| push_indented(out, flows, *place))
         }
         Verdict::Unreceived => {
             push_flow_at(out, flows, finding.place)?;
@@ -127,50 +112,6 @@ fn push_win(
     }
 }
 
-// Appends the flows that never win.
-fn push_never_flows(
-    out: &mut Vec<u8>,
-    flows: &[ListedFlow],
-    findings: &[Finding],
-) -> Result<(), AllocError>
-    ensures { OnOk result (out.new.items ≡ out.old.items ++ flat_map (λ f. flow_never_words flows.now f.place f.verdict) findings.now) }
-{
-    for finding in findings {
-        push_never(out, flows, finding)?;
-    }
-    Ok(())
-}
-
-// Appends the flows that were not decided.
-fn push_open_flows(
-    out: &mut Vec<u8>,
-    flows: &[ListedFlow],
-    findings: &[Finding],
-) -> Result<(), AllocError>
-    ensures { OnOk result (out.new.items ≡ out.old.items ++ flat_map (λ f. flow_open_words flows.now f.place f.verdict) findings.now) }
-{
-    for finding in findings {
-        push_open(out, flows, finding)?;
-    }
-    Ok(())
-}
-
-// Appends the flows that win, each with a packet, in words if these are asked for.
-fn push_win_flows(
-    alloc: Global,
-    out: &mut Vec<u8>,
-    words: bool,
-    flows: &[ListedFlow],
-    findings: &[Finding],
-) -> Result<(), AllocError>
-    ensures { OnOk result (out.new.items ≡ out.old.items ++ flat_map (λ f. flow_win_words words flows.now f.place f.verdict) findings.now) }
-{
-    for finding in findings {
-        push_win(alloc, out, words, flows, finding)?;
-    }
-    Ok(())
-}
-
 fn push_win_flows_if(
     alloc: Global,
     out: &mut Vec<u8>,
@@ -182,7 +123,9 @@ fn push_win_flows_if(
     ensures { OnOk result (out.new.items ≡ out.old.items ++ flow_wins_if all words flows.now findings.now) }
 {
     if all {
-        push_win_flows(alloc, out, words, flows, findings)?;
+        push_each(out, findings, |out, finding| {
+            push_win(alloc, out, words, flows, finding)
+        })?;
     }
     Ok(())
 }
@@ -211,13 +154,10 @@ fn push_conditions(out: &mut Vec<u8>, flows: &[ListedFlow]) -> Result<(), AllocE
     Ok(())
 }
 
-fn push_unreachable_tables(out: &mut Vec<u8>, tables: &[u8]) -> Result<(), AllocError>
-    ensures { OnOk result (out.new.items ≡ out.old.items ++ flat_map unreachable_line tables.now) }
+fn push_unreachable(out: &mut Vec<u8>, table: &u8) -> Result<(), AllocError>
+    ensures { OnOk result (out.new.items ≡ out.old.items ++ unreachable_line table.now) }
 {
-    for table in tables {
-        put(out, &UNREACHABLE, &[Number(u128::from(*table))])?;
-    }
-    Ok(())
+    put(out, &UNREACHABLE, &[Number(u128::from(*table))])
 }
 
 #[tactic(auto, unfolding(crate::specs::Shadowing::flow_report))]
@@ -233,9 +173,13 @@ fn report_of(
 {
     let mut out = Vec::new(alloc);
     push_conditions(&mut out, flows)?;
-    push_never_flows(&mut out, flows, findings)?;
-    push_open_flows(&mut out, flows, findings)?;
-    push_unreachable_tables(&mut out, tables)?;
+    push_each(&mut out, findings, |out, finding| {
+        push_never(out, flows, finding)
+    })?;
+    push_each(&mut out, findings, |out, finding| {
+        push_open(out, flows, finding)
+    })?;
+    push_each(&mut out, tables, push_unreachable)?;
     push_summary(&mut out, findings)?;
     push_win_flows_if(alloc, &mut out, all, words, flows, findings)?;
     Ok(out)

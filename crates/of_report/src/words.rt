@@ -1,13 +1,13 @@
 //! Findings in words.
-ghost use Rattle.std.specs.Prelude.{◌≡◌, ◌++◌, ◌∷◌, OnOk};
-ghost use Rattle.of_report.specs.Report.{never_words, of_findings, open_words, tie_words, shadow_line, shadow_lines, unreceived_words, win_words};
+ghost use Rattle.std.specs.Prelude.{◌≡◌, ◌++◌, OnOk};
+ghost use Rattle.of_report.specs.Report.{never_words, open_words, tie_words, shadow_line, unreceived_words, win_words};
 ghost use Rattle.of_values.specs.Origins.{view_origins};
 
 use crate::entries::push_entry;
 use crate::packets::push_packet;
 use of_check::{Finding, Verdict};
 use of_text::Config;
-use of_values::Origin;
+use of_values::{Origin, push_each};
 use std::alloc::{AllocError, Global};
 
 /// Appends that an entry never wins.
@@ -50,25 +50,9 @@ fn push_shadow(
     Ok(())
 }
 
-// Appends the entries that shadow another one, a line each.
-fn push_shadows(
-    out: &mut Vec<u8>,
-    config: &Config,
-    origins: &[Vec<Origin>],
-    table: u8,
-    places: &[usize],
-) -> Result<(), AllocError>
-    ensures { OnOk result (out.new.items ≡ out.old.items ++ shadow_lines (view_origins origins.now) config.now.tables table places.now) }
-{
-    for place in places {
-        push_shadow(out, config, origins, table, *place)?;
-    }
-    Ok(())
-}
-
-// Appends an entry that never wins.
+/// Appends an entry that never wins.
 #[tactic(auto, unfolding(crate::specs::Report::never_words))]
-fn push_never(
+pub fn push_never(
     out: &mut Vec<u8>,
     config: &Config,
     origins: &[Vec<Origin>],
@@ -81,7 +65,9 @@ fn push_never(
         Verdict::Never { by, tie } => {
             push_entry(out, config, origins, finding.table, finding.place)?;
             push_reason(out, *tie)?;
-            push_shadows(out, config, origins, finding.table, by)
+            push_each(out, by, |out, place| {
+                push_shadow(out, config, origins, finding.table, *place)
+            })
         }
         Verdict::Unreceived => {
             push_entry(out, config, origins, finding.table, finding.place)?;
@@ -91,9 +77,9 @@ fn push_never(
     }
 }
 
-// Appends an entry that was not decided.
+/// Appends an entry that was not decided.
 #[tactic(auto, unfolding(crate::specs::Report::open_words))]
-fn push_open(
+pub fn push_open(
     out: &mut Vec<u8>,
     config: &Config,
     origins: &[Vec<Origin>],
@@ -111,9 +97,9 @@ fn push_open(
     }
 }
 
-// Appends an entry that wins.
+/// Appends an entry that wins, with a packet, in words if these are asked for.
 #[tactic(auto, unfolding(crate::specs::Report::win_words))]
-fn push_win(
+pub fn push_win(
     alloc: Global,
     out: &mut Vec<u8>,
     words: bool,
@@ -138,51 +124,4 @@ fn push_win(
         }
         Verdict::Never { .. } | Verdict::Unreceived | Verdict::Open => Ok(()),
     }
-}
-
-/// Appends the entries that never win.
-pub fn push_nevers(
-    out: &mut Vec<u8>,
-    config: &Config,
-    origins: &[Vec<Origin>],
-    findings: &[Finding],
-) -> Result<(), AllocError>
-    ensures { OnOk result (out.new.items ≡ out.old.items ++ of_findings (never_words (view_origins origins.now) config.now.tables) findings.now) }
-{
-    for finding in findings {
-        push_never(out, config, origins, finding)?;
-    }
-    Ok(())
-}
-
-/// Appends the entries that were not decided.
-pub fn push_opens(
-    out: &mut Vec<u8>,
-    config: &Config,
-    origins: &[Vec<Origin>],
-    findings: &[Finding],
-) -> Result<(), AllocError>
-    ensures { OnOk result (out.new.items ≡ out.old.items ++ of_findings (open_words (view_origins origins.now) config.now.tables) findings.now) }
-{
-    for finding in findings {
-        push_open(out, config, origins, finding)?;
-    }
-    Ok(())
-}
-
-/// Appends the entries that win, each with a packet, in words if these are asked for.
-pub fn push_wins(
-    alloc: Global,
-    out: &mut Vec<u8>,
-    words: bool,
-    config: &Config,
-    origins: &[Vec<Origin>],
-    findings: &[Finding],
-) -> Result<(), AllocError>
-    ensures { OnOk result (out.new.items ≡ out.old.items ++ of_findings (win_words words (view_origins origins.now) config.now.tables) findings.now) }
-{
-    for finding in findings {
-        push_win(alloc, out, words, config, origins, finding)?;
-    }
-    Ok(())
 }

@@ -1,12 +1,12 @@
 //! The report on requirements as XML, as JUnit writes the results of tests.
-ghost use Rattle.std.specs.{Prelude.◌≡◌, Prelude.◌++◌, Prelude.IfOk, Prelude.OnOk, List.flat_map};
+ghost use Rattle.std.specs.{Prelude.◌≡◌, Prelude.◌++◌, Prelude.IfOk, Prelude.OnOk};
 ghost use Rattle.of_require.specs.{JUnit.outcome_element, JUnit.requirements_junit, JUnit.test_case, JUnit.xml_character, Words.why_decided};
 
 use crate::answers::{Answer, count};
 use crate::deciding::{Decision, Verdict};
 use crate::words::push_why;
 use of_values::Part::{Number, Text};
-use of_values::{printable, put};
+use of_values::{printable, push_each, put};
 use std::alloc::{AllocError, Global};
 
 pub const SUITE: [u8; 114] =
@@ -33,15 +33,6 @@ fn push_character(out: &mut Vec<u8>, byte: u8) -> Result<(), AllocError>
     }
 }
 
-fn push_characters(out: &mut Vec<u8>, text: &[u8]) -> Result<(), AllocError>
-    ensures { OnOk result (out.new.items ≡ out.old.items ++ flat_map xml_character text.now) }
-{
-    for byte in text {
-        push_character(out, *byte)?;
-    }
-    Ok(())
-}
-
 // Appends an element for a requirement that does not hold, with why.
 fn push_outcome(
     alloc: Global,
@@ -62,17 +53,16 @@ fn push_outcome(
 }
 
 #[tactic(auto, unfolding(crate::specs::JUnit::test_case))]
-fn push_test_cases(alloc: Global, out: &mut Vec<u8>, answers: &[Answer]) -> Result<(), AllocError>
-    ensures { OnOk result (out.new.items ≡ out.old.items ++ flat_map test_case answers.now) }
+fn push_test_case(alloc: Global, out: &mut Vec<u8>, answer: &Answer) -> Result<(), AllocError>
+    ensures { OnOk result (out.new.items ≡ out.old.items ++ test_case answer.now) }
 {
-    for answer in answers {
-        put(out, &CASE, &[Number(answer.line.number as u128)])?;
-        push_characters(out, &answer.line.text)?;
-        out.extend_from_slice(b"'>")?;
-        push_outcome(alloc, out, answer.verdict(), &answer.decision)?;
-        out.extend_from_slice(b"</testcase>\n")?;
-    }
-    Ok(())
+    put(out, &CASE, &[Number(answer.line.number as u128)])?;
+    push_each(out, &answer.line.text, |out, byte| {
+        push_character(out, *byte)
+    })?;
+    out.extend_from_slice(b"'>")?;
+    push_outcome(alloc, out, answer.verdict(), &answer.decision)?;
+    out.extend_from_slice(b"</testcase>\n")
 }
 
 /// The report on requirements as XML: a test case for each requirement, which has a failure if the requirement fails, and an error if it is undecided.
@@ -92,7 +82,9 @@ pub fn requirements_as_junit(alloc: Global, answers: &[Answer]) -> Result<Vec<u8
             Number(errors),
         ],
     )?;
-    push_test_cases(alloc, &mut out, answers)?;
+    push_each(&mut out, answers, |out, answer| {
+        push_test_case(alloc, out, answer)
+    })?;
     out.extend_from_slice(b"</testsuite>\n")?;
     Ok(out)
 }

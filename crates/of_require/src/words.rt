@@ -1,6 +1,5 @@
 //! The report on requirements in words.
 ghost use Rattle.std.specs.Prelude.{◌≡◌, ◌==◌, ◌++◌, IfOk, OnOk, if◌then◌else◌};
-ghost use Rattle.std.specs.List.{flat_map};
 ghost use Rattle.of_require.specs.Words.{answer_words, is_told as is_told_by, requirements_summary, requirements_words, verdict_begun, verdict_line, why_decided};
 
 use crate::answers::{Answer, count};
@@ -8,7 +7,7 @@ use crate::deciding::{Decision, Verdict};
 use crate::json::may_match;
 use of_json::{push_changed_side, push_frame_lines};
 use of_values::Part::{Number, Text};
-use of_values::{push_printable, put};
+use of_values::{push_each, push_printable, put};
 use std::alloc::{AllocError, Global};
 
 pub const HOLDS: [u8; 27] = *b"requirement holds: line %: ";
@@ -79,19 +78,17 @@ fn is_told(all: bool, answer: &Answer) -> bool
 
 // Appends what is told of each requirement.
 #[tactic(auto, unfolding(crate::specs::Words::answer_words))]
-fn push_answers(
+fn push_answer(
     alloc: Global,
     out: &mut Vec<u8>,
     all: bool,
-    answers: &[Answer],
+    answer: &Answer,
 ) -> Result<(), AllocError>
-    ensures { OnOk result (out.new.items ≡ out.old.items ++ flat_map (answer_words all) answers.now) }
+    ensures { OnOk result (out.new.items ≡ out.old.items ++ answer_words all answer.now) }
 {
-    for answer in answers {
-        if is_told(all, answer) {
-            push_verdict_line(out, answer)?;
-            push_why(alloc, out, answer.verdict(), &answer.decision)?;
-        }
+    if is_told(all, answer) {
+        push_verdict_line(out, answer)?;
+        push_why(alloc, out, answer.verdict(), &answer.decision)?;
     }
     Ok(())
 }
@@ -135,7 +132,9 @@ pub fn requirements_in_words(
     ensures { IfOk result (λ text. text.items ≡ requirements_words all answers.now) }
 {
     let mut out = Vec::new(alloc);
-    push_answers(alloc, &mut out, all, answers)?;
+    push_each(&mut out, answers, |out, answer| {
+        push_answer(alloc, out, all, answer)
+    })?;
     push_summary(&mut out, answers)?;
     Ok(out)
 }

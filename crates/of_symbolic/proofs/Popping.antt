@@ -20,15 +20,10 @@ later told k a l h = record { before = a ∷ h.before; after = h.after; is = ap 
 
 pops_from : (told : Bool) (l : List Action) (ps : List PushedTag) (own : ReceivedTag) → (fold (λ j a. tags_by told a j) (record { pushed = ps; own = Some own }) l).own ≡ None → PopsFrom told (record { pushed = ps; own = Some own }) l
 pops_from told [] ps own h = absurd cc
-pops_from told (actions.PushVlan type ∷ l) ps own h = later told _ (actions.PushVlan type) l (pops_from told l _ own h)
 pops_from told (actions.PopVlan ∷ l) [] own h = record { before = []; after = l; is = refl; none = refl }
 pops_from told (actions.PopVlan ∷ l) (p ∷ ps) own h = later told _ actions.PopVlan l (pops_from told l ps own h)
-pops_from told (actions.SetNwTtl ttl ∷ l) ps own h = later told _ (actions.SetNwTtl ttl) l (pops_from told l ps own h)
-pops_from told (actions.DecNwTtl ∷ l) ps own h = later told _ actions.DecNwTtl l (pops_from told l ps own h)
 pops_from told (actions.SetField f n ∷ l) [] own h = later told _ (actions.SetField f n) l (pops_from told l [] _ h)
-pops_from told (actions.SetField f n ∷ l) (p ∷ ps) own h = later told _ (actions.SetField f n) l (pops_from told l _ own h)
-pops_from told (actions.Output port max ∷ l) ps own h = later told _ (actions.Output port max) l (pops_from told l ps own h)
-pops_from told (actions.Group group ∷ l) ps own h = later told _ (actions.Group group) l (pops_from told l ps own h)
+pops_from told (other ∷ l) ps own h = later told _ other l (pops_from told l _ own h)
 
 pub only_pops : (o : Overlay) (l : List Action) → IsOverlay o l → o.own ≡ None → PopsOwn o.inner l
 only_pops o l h none =

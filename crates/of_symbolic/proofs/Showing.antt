@@ -106,10 +106,8 @@ one_shows told actions.PopVlan set k v w h = record { fields = h.fields; tags = 
 one_shows told (actions.SetField f n) set k v w h = record {
   fields = λ g. field_set_by (eqb (number_of g) (number_of f)) (n % 2 ^ bit_count g) (set g) (v.fields g) (w.fields g) (h.fields g);
   tags = set_tags f n k.pushed k.own v.tags w.tags h.tags;
-one_shows told other set k v w h = record { fields = h.fields; tags = h.tags }
 }
-one_shows told (actions.Output port max) set k v w h = record { fields = h.fields; tags = h.tags }
-one_shows told (actions.Group group) set k v w h = record { fields = h.fields; tags = h.tags }
+one_shows told other set k v w h = record { fields = h.fields; tags = h.tags }
 
 all_show : (told : Bool) (l : List Action) (set : Field → Option ℕ) (k : Tags) (v w : View) → Shows set k v w → Shows (λ f. fold (λ old a. value_by a f old) (set f) l) (fold (λ j a. tags_by told a j) k l) v (view_of_actions l w)
 all_show told [] set k v w h = record { fields = h.fields; tags = h.tags }
@@ -135,16 +133,9 @@ below_told true (Some k) e = refl
 below_told false (Some k) e = absurd cc
 
 one_told : (told : Bool) (a : Action) (ps : List PushedTag) (own : Option ReceivedTag) → IsInnerIfTold told (record { pushed = ps; own = own }) → IsInnerIfTold told (tags_by told a (record { pushed = ps; own = own }))
-one_told told (actions.PushVlan type) ps own h = h
 one_told told actions.PopVlan [] own h = below_told told own
-one_told told actions.PopVlan (p ∷ ps) own h = h
-one_told told (actions.SetNwTtl ttl) ps own h = h
-one_told told actions.DecNwTtl ps own h = h
-one_told told (actions.SetField f n) [] None h = h
 one_told told (actions.SetField f n) [] (Some k) h = λ e. h (sym (still_inner f n k) ∙ e)
-one_told told (actions.SetField f n) (p ∷ ps) own h = h
-one_told told (actions.Output port max) ps own h = h
-one_told told (actions.Group group) ps own h = h
+one_told told other ps own h = h
 
 all_told : (told : Bool) (l : List Action) (k : Tags) → IsInnerIfTold told k → IsInnerIfTold told (fold (λ j a. tags_by told a j) k l)
 all_told told [] k h = h

@@ -15,14 +15,13 @@ call_of actions.DecNwTtl = Some DecTtl
 call_of (actions.SetField field value) = Some (Set field value)
 call_of other = None
 
--- a rewriting action: PUSH_VLAN has the type of a tag, and SET_FIELD a field that may be set
+-- a rewriting action, which is any except OUTPUT and GROUP: PUSH_VLAN has the type of a tag, and SET_FIELD a field that may be set
 abbrev pub IsRewriting : Action → Type 0
+IsRewriting (actions.Output port max_len) = ⊥
+IsRewriting (actions.Group group) = ⊥
 IsRewriting (actions.PushVlan type) = IsTrue (is_tag_type type)
-IsRewriting actions.PopVlan = ⊤
-IsRewriting (actions.SetNwTtl ttl) = ⊤
-IsRewriting actions.DecNwTtl = ⊤
 IsRewriting (actions.SetField field value) = IsTrue (is_settable field)
-IsRewriting other = ⊥
+IsRewriting other = ⊤
 
 abbrev pub AreRewriting : List Action → Type 0
 AreRewriting [] = ⊤

@@ -11,41 +11,26 @@ use Rattle.of_symbolic_run.specs.States.{AreTaskCopies, IsTaskCopy, answer_to_ta
 pub is_lookup : (l : List Work) (table : ℕ) → answer_to_works l ≡ advances.Lookup table → l ≡ Lookup table ∷ drop 1 l
 is_lookup [] table h = absurd cc
 is_lookup (Lookup t ∷ l) table h = let same : t ≡ table = cc in ap (λ (x : ℕ). Lookup x ∷ l) same
-is_lookup (Do i ∷ l) table h = absurd cc
-is_lookup (RunSet ∷ l) table h = absurd cc
-is_lookup (Act (actions.Output port max_len) ∷ l) table h = absurd cc
-is_lookup (Act (actions.PushVlan type) ∷ l) table h = absurd cc
-is_lookup (Act actions.PopVlan ∷ l) table h = absurd cc
 is_lookup (Act (actions.Group group) ∷ l) table h = absurd cc
-is_lookup (Act (actions.SetNwTtl ttl) ∷ l) table h = absurd cc
 is_lookup (Act actions.DecNwTtl ∷ l) table h = absurd cc
-is_lookup (Act (actions.SetField f v) ∷ l) table h = absurd cc
+is_lookup (Act other ∷ l) table h = absurd cc
+is_lookup (other ∷ l) table h = absurd cc
 
 pub is_decrement : (l : List Work) → answer_to_works l ≡ advances.DecNwTtl → l ≡ Act actions.DecNwTtl ∷ drop 1 l
 is_decrement [] h = absurd cc
 is_decrement (Lookup t ∷ l) h = absurd cc
 is_decrement (Do i ∷ l) h = absurd cc
 is_decrement (RunSet ∷ l) h = absurd cc
-is_decrement (Act (actions.Output port max_len) ∷ l) h = absurd cc
-is_decrement (Act (actions.PushVlan type) ∷ l) h = absurd cc
-is_decrement (Act actions.PopVlan ∷ l) h = absurd cc
-is_decrement (Act (actions.Group group) ∷ l) h = absurd cc
-is_decrement (Act (actions.SetNwTtl ttl) ∷ l) h = absurd cc
 is_decrement (Act actions.DecNwTtl ∷ l) h = refl
-is_decrement (Act (actions.SetField f v) ∷ l) h = absurd cc
+is_decrement (Act other ∷ l) h = absurd cc
 
 pub is_group : (l : List Work) (group : ℕ) → answer_to_works l ≡ advances.Group group → l ≡ Act (actions.Group group) ∷ drop 1 l
 is_group [] group h = absurd cc
 is_group (Lookup t ∷ l) group h = absurd cc
 is_group (Do i ∷ l) group h = absurd cc
 is_group (RunSet ∷ l) group h = absurd cc
-is_group (Act (actions.Output port max_len) ∷ l) group h = absurd cc
-is_group (Act (actions.PushVlan type) ∷ l) group h = absurd cc
-is_group (Act actions.PopVlan ∷ l) group h = absurd cc
 is_group (Act (actions.Group g) ∷ l) group h = let same : g ≡ group = cc in ap (λ (x : ℕ). Act (actions.Group x) ∷ l) same
-is_group (Act (actions.SetNwTtl ttl) ∷ l) group h = absurd cc
-is_group (Act actions.DecNwTtl ∷ l) group h = absurd cc
-is_group (Act (actions.SetField f v) ∷ l) group h = absurd cc
+is_group (Act other ∷ l) group h = absurd cc
 
 -- ---- the first packet
 

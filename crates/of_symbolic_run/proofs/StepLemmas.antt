@@ -29,18 +29,14 @@ frames_more [] a frame = refl
 frames_more (b ∷ l) a frame = frames_more l a (frame_by (call_of b) frame)
 
 pub is_done : (a : Action) → IsTrue (rewrites_alike a) → answer_to (Act a) ≡ Done
-is_done (actions.PushVlan type) h = refl
-is_done actions.PopVlan h = refl
-is_done (actions.SetNwTtl ttl) h = refl
-is_done (actions.SetField f v) h = refl
-is_done other h = cc
+is_done (actions.Output port max_len) h = cc
+is_done (actions.Group group) h = cc
+is_done actions.DecNwTtl h = cc
+is_done other h = refl
 
 pub alike_rewrites : (a : Action) → IsTrue (rewrites_alike a) → IsTrue (rewrites_frames a)
-alike_rewrites (actions.PushVlan type) h = refl
-alike_rewrites actions.PopVlan h = refl
-alike_rewrites (actions.SetNwTtl ttl) h = refl
-alike_rewrites (actions.SetField f v) h = refl
-alike_rewrites other h = cc
+alike_rewrites actions.DecNwTtl h = cc
+alike_rewrites other h = h
 
 -- a supported action that rewrites frames
 pub is_rewriting : (a : Action) → IsTrue (is_supported false a) → IsTrue (rewrites_frames a) → IsRewriting a
@@ -60,11 +56,10 @@ sets_more set (a ∷ l) m = sets_more (with_action set a) l m
 
 module _ (t t' : SymbolicTask) (e : List Emission) (written : t'.packet.written ≡ t.packet.written) (metadata : t'.packet.metadata ≡ t.packet.metadata) (cookie : t'.packet.cookie ≡ t.packet.cookie) (table : t'.packet.table ≡ t.packet.table) (miss : t'.packet.miss ≡ t.packet.miss) (left : t'.work.items ≡ drop 1 t.work.items) where
   pub rewrites : (a : Action) → IsTrue (rewrites_alike a) → slice_get t.work.items 0 ≡ Some (Act a) → t'.packet.rewrites ≡ t.packet.rewrites ++ a ∷ [] → TakesRow t e t' e
-  rewrites (actions.PushVlan type) is first more w frame port = rw (first_is t.work.items (Act (actions.PushVlan type)) first, written, metadata, cookie, table, miss, left, more, frames_more t.packet.rewrites (actions.PushVlan type) frame) (refl, sym (append-nil _))
-  rewrites actions.PopVlan is first more w frame port = rw (first_is t.work.items (Act actions.PopVlan) first, written, metadata, cookie, table, miss, left, more, frames_more t.packet.rewrites actions.PopVlan frame) (refl, sym (append-nil _))
-  rewrites (actions.SetNwTtl ttl) is first more w frame port = rw (first_is t.work.items (Act (actions.SetNwTtl ttl)) first, written, metadata, cookie, table, miss, left, more, frames_more t.packet.rewrites (actions.SetNwTtl ttl) frame) (refl, sym (append-nil _))
-  rewrites (actions.SetField f v) is first more w frame port = rw (first_is t.work.items (Act (actions.SetField f v)) first, written, metadata, cookie, table, miss, left, more, frames_more t.packet.rewrites (actions.SetField f v) frame) (refl, sym (append-nil _))
-  rewrites other is first more w frame port = let no : ⊥ = cc in absurd no
+  rewrites (actions.Output port max_len) is first more w frame ingress = let no : ⊥ = cc in absurd no
+  rewrites (actions.Group group) is first more w frame port = let no : ⊥ = cc in absurd no
+  rewrites actions.DecNwTtl is first more w frame port = let no : ⊥ = cc in absurd no
+  rewrites other is first more w frame port = rw (first_is t.work.items (Act other) first, written, metadata, cookie, table, miss, left, more, frames_more t.packet.rewrites other frame) (refl, sym (append-nil _))
 
 module _ (t t' : SymbolicTask) (e : List Emission) where
   pub goes : (table : ℕ) → slice_get t.work.items 0 ≡ Some (Do (Goto table)) → t'.packet ≡ t.packet → t'.work.items ≡ Lookup table ∷ [] → TakesRow t e t' e
@@ -113,29 +108,16 @@ works_done l i works le h = sym (append-nil (map work_for works)) ∙ rw (drop_a
 
 quiet : (x : Work) → work_line x ≡ None → (ts : List SymbolicTask) (l : List Step) → TellsAdvance (answer_to x) ts l l
 quiet (Lookup t) h ts l = refl
-quiet (Do (Apply list)) h ts l = absurd cc
-quiet (Do instructions.Clear) h ts l = absurd cc
-quiet (Do (Write list)) h ts l = absurd cc
-quiet (Do (instructions.Metadata value mask)) h ts l = absurd cc
-quiet (Do (Goto t)) h ts l = absurd cc
-quiet RunSet h ts l = absurd cc
-quiet (Act (actions.Output port max_len)) h ts l = absurd cc
-quiet (Act (actions.PushVlan type)) h ts l = absurd cc
-quiet (Act actions.PopVlan) h ts l = absurd cc
 quiet (Act (actions.Group group)) h ts l = refl
-quiet (Act (actions.SetNwTtl ttl)) h ts l = absurd cc
 quiet (Act actions.DecNwTtl) h ts l = refl
-quiet (Act (actions.SetField f v)) h ts l = absurd cc
+quiet (Act other) h ts l = absurd cc
+quiet other h ts l = absurd cc
 
 is_answered : (x : Work) (line : Step) → work_line x ≡ Some line → answer_to x ≡ Done
 is_answered (Lookup t) line h = absurd cc
-is_answered (Act (actions.Output port max_len)) line h = refl
-is_answered (Act (actions.PushVlan type)) line h = refl
-is_answered (Act actions.PopVlan) line h = refl
 is_answered (Act (actions.Group group)) line h = absurd cc
-is_answered (Act (actions.SetNwTtl ttl)) line h = refl
 is_answered (Act actions.DecNwTtl) line h = absurd cc
-is_answered (Act (actions.SetField f v)) line h = refl
+is_answered (Act other) line h = refl
 is_answered other line h = refl
 
 either_line : (b : Bool) (x y : rows.Row) (line : Step) → x.line ≡ line → y.line ≡ line → (cond b x y).line ≡ line
@@ -145,17 +127,11 @@ either_line false x y line h k = k
 row_line : (w : TheWorld) (p : Packet) (x : Work) (rest : List rows.Work) (line : Step) → work_line x ≡ Some line → (rows.row w p (work_for x ∷ rest)).line ≡ line
 row_line w p (Lookup t) rest line h = absurd cc
 row_line w p (Do (Apply list)) rest line h = cc
-row_line w p (Do instructions.Clear) rest line h = cc
-row_line w p (Do (Write list)) rest line h = cc
-row_line w p (Do (instructions.Metadata value mask)) rest line h = cc
-row_line w p (Do (Goto t)) rest line h = cc
+row_line w p (Do other) rest line h = cc
 row_line w p RunSet rest line h = cc
 row_line w p (Act (actions.Output port max_len)) rest line h =
     let is : step.Act (actions.Output port max_len) ≡ line = cc in
     either_line _ _ _ line is is
-row_line w p (Act (actions.PushVlan type)) rest line h = cc
-row_line w p (Act actions.PopVlan) rest line h = cc
 row_line w p (Act (actions.Group group)) rest line h = absurd cc
-row_line w p (Act (actions.SetNwTtl ttl)) rest line h = cc
 row_line w p (Act actions.DecNwTtl) rest line h = absurd cc
-row_line w p (Act (actions.SetField f v)) rest line h = cc
+row_line w p (Act other) rest line h = cc

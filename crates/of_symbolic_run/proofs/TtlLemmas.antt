@@ -94,11 +94,7 @@ pub within_more : (i : ℕ) (a : Action) (k : KnownTtl) → IsWithin i k → IsW
 within_more i (actions.SetNwTtl t) k h = tt
 within_more i actions.DecNwTtl (Less n) h = omega (arith, h)
 within_more i actions.DecNwTtl (Fixed t) h = tt
-within_more i (actions.Output port max_len) k h = later i k h
-within_more i (actions.PushVlan type) k h = later i k h
-within_more i actions.PopVlan k h = later i k h
-within_more i (actions.Group group) k h = later i k h
-within_more i (actions.SetField f v) k h = later i k h
+within_more i other k h = later i k h
 
 pub below_most : (i : ℕ) (k : KnownTtl) → i + 1 < 2 ^ 64 → IsWithin i k → IsBelowMost k
 below_most i (Less n) fits h = omega (arith, fits, h)

@@ -1,6 +1,6 @@
 -- ACTIONS THAT REWRITE FRAMES (OpenFlow 1.3.5, 5.12).
 use Rattle.std.specs.Prelude.{Bool, true, false}
-use Rattle.of_actions.specs.declared.action.Action.TheVariants.{Output, PushVlan, PopVlan, Group, SetNwTtl, SetField}
+use Rattle.of_actions.specs.declared.action.Action.TheVariants.{Output, Group, DecNwTtl}
 use Rattle.of_actions.specs.declared.action.Action.{Action}
 
 -- all except OUTPUT and GROUP
@@ -11,8 +11,5 @@ rewrites_frames other = true
 
 -- an action that rewrites each frame in the same way: its TTL decides what DEC_NW_TTL does
 abbrev pub rewrites_alike : Action → Bool
-rewrites_alike (PushVlan type) = true
-rewrites_alike PopVlan = true
-rewrites_alike (SetNwTtl ttl) = true
-rewrites_alike (SetField field value) = true
-rewrites_alike other = false
+rewrites_alike DecNwTtl = false
+rewrites_alike other = rewrites_frames other

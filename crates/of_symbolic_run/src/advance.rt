@@ -66,7 +66,7 @@ fn do_action(
             task.output(port, max_len, emitted)?;
             Ok(Advance::Done)
         }
-        Action::PushVlan(_) | Action::PopVlan | Action::SetNwTtl(_) | Action::SetField { .. } => {
+        _ => {
             task.rewrite_frame_by(served)?;
             Ok(Advance::Done)
         }

@@ -48,7 +48,7 @@ impl<'a> SymbolicTask<'a> {
         Ok(())
     }
 
-    // PUSH_VLAN, POP_VLAN, SET_NW_TTL and SET_FIELD.
+    // An action that rewrites each frame in the same way.
     pub(crate) fn rewrite_frame_by(&mut self, action: ServedAction) -> Result<(), AllocError>
         requires first { slice_get self.now.work.items 0 ≡ Some (Act action) }
         requires alike { IsTrue (rewrites_alike action) }

@@ -11,7 +11,7 @@ use of_oxm::MatchField;
 use of_switch::Switch;
 use of_table::Entries;
 use of_text::{begin_note, end_note, push_number, push_value};
-use of_values::push_value_words;
+use of_values::{push_each, push_value_words};
 use std::alloc::AllocError;
 
 // Whether the match has the field.
@@ -181,21 +181,6 @@ fn push_change(
 }
 
 // Appends those of these fields whose values differ in the second key.
-fn push_changes_of(
-    out: &mut Vec<u8>,
-    style: Style,
-    old: &FieldKey,
-    new: &FieldKey,
-    fields: &[Field],
-) -> Result<(), AllocError>
-    ensures { OnOk result (out.new.items ≡ out.old.items ++ flat_map (change_note style (value old.now) (value new.now)) fields.now) }
-{
-    for field in fields {
-        push_change(out, style, old, new, *field)?;
-    }
-    Ok(())
-}
-
 /// Appends each field whose value differs in the second key.
 pub fn push_changes(
     out: &mut Vec<u8>,
@@ -205,7 +190,9 @@ pub fn push_changes(
 ) -> Result<(), AllocError>
     ensures { OnOk result (out.new.items ≡ out.old.items ++ change_notes style (value old.now) (value new.now)) }
 {
-    push_changes_of(out, style, old, new, &Field::ALL)
+    push_each(out, &Field::ALL, |out, field| {
+        push_change(out, style, old, new, *field)
+    })
 }
 
 // A TTL as a wider number.

@@ -1,5 +1,5 @@
 //! Traces for people.
-ghost use Rattle.std.specs.Prelude.{◌≡◌, ◌<◌, ◌++◌, ◌∷◌, IfOk, OnOk, Some, IsTrue, codes, decimal};
+ghost use Rattle.std.specs.Prelude.{◌≡◌, ◌<◌, ◌++◌, IfOk, OnOk, Some, IsTrue};
 ghost use Rattle.std.specs.List.{AllByRecursion};
 ghost use Rattle.of_oxm.specs.NormalForm.{IsKept};
 ghost use Rattle.of_text.specs.{Rows.Fits, Rows.row_encoding, Lines.note};
@@ -29,6 +29,7 @@ use of_switch::{Effect, Switch};
 use of_table::Flow;
 use of_text::{FlowHead, Row, begin_note, end_note, push_note, push_row};
 use of_tracing::Trace;
+use of_values::push_each;
 use of_wire::limits::TABLES;
 use std::alloc::{AllocError, Global};
 
@@ -175,10 +176,9 @@ fn push_unsent_note(out: &mut Vec<u8>, style: Style, why: Option<Unsent>) -> Res
 fn push_buckets(out: &mut Vec<u8>, places: &[u8]) -> Result<(), AllocError>
     ensures { OnOk result (out.new.items ≡ out.old.items ++ bucket_notes places.now) }
 {
-    for place in places {
-        push_number_note(out, b"bucket", u32::from(*place))?;
-    }
-    Ok(())
+    push_each(out, places, |out, place| {
+        push_number_note(out, b"bucket", u32::from(*place))
+    })
 }
 
 // Appends where an output or a group sends a packet.

@@ -1,6 +1,6 @@
 //! Traces in words.
-ghost use Rattle.std.specs.Prelude.{◌≡◌, ◌++◌, ◌∷◌, OnOk, IsTrue, Some, decimal, option_to_list};
-ghost use Rattle.std.specs.{List.flat_map, Option.option_copied};
+ghost use Rattle.std.specs.Prelude.{◌≡◌, ◌++◌, OnOk, IsTrue, Some, option_to_list};
+ghost use Rattle.std.specs.Option.{option_copied};
 ghost use Rattle.of_headers.specs.FieldMap.{value};
 ghost use Rattle.of_machine.specs.declared.data.Step.TheVariants.{Act};
 ghost use Rattle.of_text.specs.Lines.{ended};
@@ -19,7 +19,7 @@ use of_ports::{Port, find_port};
 use of_switch::{Effect, Switch};
 use of_table::Flow;
 use of_text::{Row, push_number, push_row};
-use of_values::{push_entry_words, push_port, push_value_words};
+use of_values::{push_each, push_entry_words, push_port, push_value_words};
 use of_wire::limits::{OFPP_CONTROLLER, TABLES};
 use std::alloc::{AllocError, Global};
 
@@ -264,9 +264,7 @@ fn push_action(out: &mut Vec<u8>, action: Action) -> Result<(), AllocError>
             out.push(b' ')?;
             push_value_words(out, field, value, None)
         }
-        Action::PushVlan(_) | Action::PopVlan | Action::SetNwTtl(_) | Action::DecNwTtl => {
-            push_row(out, Row::Do(action))
-        }
+        _ => push_row(out, Row::Do(action)),
     }
 }
 
@@ -412,19 +410,6 @@ fn push_leaving_line(alloc: Global, out: &mut Vec<u8>, effect: &Effect) -> Resul
 }
 
 // Appends effects in words.
-fn push_leaving_lines(
-    alloc: Global,
-    out: &mut Vec<u8>,
-    effects: &[Effect],
-) -> Result<(), AllocError>
-    ensures { OnOk result (out.new.items ≡ out.old.items ++ flat_map leaving_line effects.now) }
-{
-    for effect in effects {
-        push_leaving_line(alloc, out, effect)?;
-    }
-    Ok(())
-}
-
 /// Appends what leaves, in words.
 pub fn push_leaving(alloc: Global, out: &mut Vec<u8>, effects: &[Effect]) -> Result<(), AllocError>
     ensures { OnOk result (out.new.items ≡ out.old.items ++ leaving_text effects.now) }
@@ -432,5 +417,7 @@ pub fn push_leaving(alloc: Global, out: &mut Vec<u8>, effects: &[Effect]) -> Res
     if effects.is_empty() {
         out.extend_from_slice(b"nothing leaves\n")?;
     }
-    push_leaving_lines(alloc, out, effects)
+    push_each(out, effects, |out, effect| {
+        push_leaving_line(alloc, out, effect)
+    })
 }

@@ -4,6 +4,7 @@
 mod addresses;
 mod characters;
 mod digits;
+mod each;
 mod entries;
 mod form;
 mod ipv6;
@@ -15,6 +16,7 @@ mod values;
 
 pub use characters::{printable, push_printable};
 pub use digits::{push_decimal, push_hexadecimal};
+pub use each::push_each;
 pub use entries::{push_entry_words, push_field_words};
 pub use form::{Form, form_of};
 pub use lines::{Part, put};

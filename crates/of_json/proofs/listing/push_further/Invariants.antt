@@ -1,6 +1,6 @@
 use Rattle.std.proofs.Common.{◌≡◌, ◌++◌, ◌∷◌, ℕ, List, drop}
 use Rattle.std.specs.List.{flat_map}
-use Rattle.of_json.specs.Parts.{AppendsEach}
+use Rattle.of_values.specs.Each.{AppendsEach}
 use Rattle.of_json.proofs.listing.push_further.Given as goal
 
 abbrev pub invariant-loop-item : goal.invariant-loop-item
