@@ -3,9 +3,8 @@ use crate::contents::NoFile;
 use crate::faults::requirement_fault;
 use crate::lookups::Lookups;
 use crate::screen::Screen;
-use of_check::required_port;
 use of_command_line::{Check, CheckOutput};
-use of_files::missing_ports;
+use of_files::{missing_ports, push_required_port};
 use of_hints::{Marked, Place, line_in};
 use of_paths_report::Destination;
 use of_replay::Ended;
@@ -14,6 +13,7 @@ use of_require::{
     read_requirements, requirements_as_json, requirements_as_junit, requirements_in_words, worst,
 };
 use of_switch::Switch;
+use of_values::push_each;
 use std::alloc::{AllocError, Global};
 use std::fs::File;
 use std::io::{self, Write};
@@ -64,11 +64,7 @@ fn push_places(ports: &mut Vec<u32>, places: &[Destination]) -> Result<(), Alloc
 }
 
 fn push_line_ports(ports: &mut Vec<u32>, line: &Line) -> Result<(), AllocError> {
-    for field in &line.requirement.within {
-        if let Some(port) = required_port(field) {
-            ports.push(port)?;
-        }
-    }
+    push_each(ports, &line.requirement.within, push_required_port)?;
     match &line.requirement.demand {
         Demand::LeavesBy(places) | Demand::LeavesOnlyBy(places) | Demand::Has { places, .. } =>
             push_places(ports, places),
