@@ -26,21 +26,21 @@ words_more step s next rest word after h w a e k =
 
 -- ---- words before the actions
 
-before_next : (rest : List ℕ) → 0 < length rest → words_before_actions (words_from 0 rest) ≡ cond (begins_actions (word_name (word_in 0 rest))) [] (word_in 0 rest ∷ words_before_actions (words_from 0 (after_word 0 rest)))
+before_next : (rest : List ℕ) → 0 < length rest → words_before_actions (words_from 0 rest) ≡ cond (begins_actions (word_in 0 rest)) [] (word_in 0 rest ∷ words_before_actions (words_from 0 (after_word 0 rest)))
 before_next rest h = ap words_before_actions (first_word rest h)
 
 pub none_before : {S : Type 0} (step : S → List ℕ → S) (s : S) (rest : List ℕ) → rest ≡ [] → fold step s (words_before_actions (words_from 0 rest)) ≡ s
 unfolding words_from
 none_before step s rest e = rw e refl
 
-pub before_ends : {S : Type 0} (step : S → List ℕ → S) (s : S) (rest word name : List ℕ) → 0 < length rest → word ≡ word_in 0 rest → name ≡ word_name word → begins_actions name ≡ true → fold step s (words_before_actions (words_from 0 rest)) ≡ s
-before_ends step s rest word name h w n e =
-    let so : begins_actions (word_name (word_in 0 rest)) ≡ true = ap (λ (x : List ℕ). begins_actions (word_name x)) (sym w) ∙ (ap begins_actions (sym n) ∙ e) in
+pub before_ends : {S : Type 0} (step : S → List ℕ → S) (s : S) (rest word : List ℕ) → 0 < length rest → word ≡ word_in 0 rest → begins_actions word ≡ true → fold step s (words_before_actions (words_from 0 rest)) ≡ s
+before_ends step s rest word h w e =
+    let so : begins_actions (word_in 0 rest) ≡ true = ap begins_actions (sym w) ∙ e in
     ap (fold step s) (before_next rest h) ∙ rw so refl
 
-pub before_more : {S : Type 0} (step : S → List ℕ → S) (s next : S) (rest word name after : List ℕ) → 0 < length rest → word ≡ word_in 0 rest → after ≡ after_word 0 rest → name ≡ word_name word → begins_actions name ≡ false → next ≡ step s word → fold step s (words_before_actions (words_from 0 rest)) ≡ fold step next (words_before_actions (words_from 0 after))
-before_more step s next rest word name after h w a n e k =
-    let so : begins_actions (word_name (word_in 0 rest)) ≡ false = ap (λ (x : List ℕ). begins_actions (word_name x)) (sym w) ∙ (ap begins_actions (sym n) ∙ e) in
+pub before_more : {S : Type 0} (step : S → List ℕ → S) (s next : S) (rest word after : List ℕ) → 0 < length rest → word ≡ word_in 0 rest → after ≡ after_word 0 rest → begins_actions word ≡ false → next ≡ step s word → fold step s (words_before_actions (words_from 0 rest)) ≡ fold step next (words_before_actions (words_from 0 after))
+before_more step s next rest word after h w a e k =
+    let so : begins_actions (word_in 0 rest) ≡ false = ap begins_actions (sym w) ∙ e in
     let outcome : step s (word_in 0 rest) ≡ next = ap (step s) (sym w) ∙ sym k in
     let first = word_in 0 rest in
     let others = words_before_actions (words_from 0 (after_word 0 rest)) in

@@ -54,7 +54,7 @@ says_protocol word =
 
 abbrev pub words_before_actions : List (List ℕ) → List (List ℕ)
 words_before_actions [] = []
-words_before_actions (w ∷ ws) = if begins_actions (word_name w) then [] else w ∷ words_before_actions ws
+words_before_actions (w ∷ ws) = if begins_actions w then [] else w ∷ words_before_actions ws
 
 abbrev pub with_word_of_protocol : PartialFlow → List ℕ → PartialFlow
 with_word_of_protocol s word = if says_protocol word then with_flow_word s word else s

@@ -1,6 +1,6 @@
 -- WHAT THE WORDS OF A LINE SAY OF A FLOW, one after the other (ovs-ofctl(8)).
-use Rattle.std.specs.Prelude.{ℕ, ◌^◌, ◌==◌, ◌&&◌, ◌||◌, not, nat_lt, Bool, true, false, List, [], ◌∷◌, ◌++◌, codes, length, bit_or, Option, Some, None, Result, Ok, Err, if◌then◌else◌}
-use Rattle.std.specs.Str.{bytes_eq, str_eq_ignore_ascii_case}
+use Rattle.std.specs.Prelude.{ℕ, ◌^◌, ◌==◌, ◌&&◌, ◌||◌, not, nat_eq, nat_lt, Bool, true, false, List, [], ◌∷◌, ◌++◌, codes, length, bit_or, Option, Some, None, Result, Ok, Err, if◌then◌else◌}
+use Rattle.std.specs.{List.starts_with, Str.bytes_eq, Str.str_eq_ignore_ascii_case}
 use Rattle.of_oxm.specs.declared.match_field.MatchField.{MatchField}
 use Rattle.of_actions.specs.declared.action.Action.{Action}
 use Rattle.of_lines.specs.declared.row.FlowHead.{FlowHead}
@@ -176,12 +176,13 @@ with_action_word s word = next_or_fault s word (with_flow_action s word)
 abbrev pub with_first_action : PartialFlow → List ℕ → PartialFlow
 with_first_action s value = if length value == 0 then record s { in_actions = true } else with_action_word (record s { in_actions = true }) value
 
+-- a word behind which the words are actions; ovs-ofctl wants the sign
 abbrev pub begins_actions : List ℕ → Bool
-begins_actions name = bytes_eq name (codes "actions") || bytes_eq name (codes "action")
+begins_actions word = starts_with nat_eq word (codes "actions=") || starts_with nat_eq word (codes "action=")
 
 -- ONE MORE WORD of a flow
 unfoldable pub with_flow_word : PartialFlow → List ℕ → PartialFlow
 with_flow_word s word =
     if s.in_actions then with_action_word s word
-    else if begins_actions (word_name word) then with_first_action s (word_value word)
+    else if begins_actions word then with_first_action s (word_value word)
     else with_other_word (with_counter s word) word

@@ -9,7 +9,7 @@ use Rattle.of_text.specs.Groups.{TextBucket, TextGroup}
 use Rattle.of_wire.specs.declared.limits.TheConstants.{OFPG_ANY, OFPP_ANY}
 use Rattle.of_ovs_words.specs.{declared.why.Why.Why, Words.word_name, Words.word_value, Outcomes.◌>>=◌, Outcomes.numbered, Ports.port_in, Actions.with_action_in_word}
 use Rattle.of_ovs_words.specs.declared.why.Why.TheVariants as whys
-use Rattle.of_ovs_lines.specs.{PartialFlows.Refusal, PartialFlows.begins_actions, Finished.action_fits}
+use Rattle.of_ovs_lines.specs.{PartialFlows.Refusal, Finished.action_fits}
 
 pub record PartialGroup : Type 0 where
   pub id : Option ℕ
@@ -51,6 +51,9 @@ with_bucket_action s word = with_action_in_word [] [] s.dropped s.actions word >
 abbrev pub first_action : PartialGroup → List ℕ → Result PartialGroup Why
 first_action s value = if length value == 0 then Ok s else with_bucket_action s value
 
+abbrev pub names_actions : List ℕ → Bool
+names_actions name = bytes_eq name (codes "actions") || bytes_eq name (codes "action")
+
 -- a word of a bucket, by its name and its value
 unfoldable pub with_bucket_word : PartialGroup → List ℕ → Result PartialGroup Why
 with_bucket_word s word =
@@ -58,7 +61,7 @@ with_bucket_word s word =
     else if bytes_eq (word_name word) (codes "watch_port") then (port_in whys.PortName (word_value word) >>= λ n. Ok (record s { head = record s.head { watch_port = n } }))
     else if bytes_eq (word_name word) (codes "watch_group") then (numbered (2 ^ 32) (word_value word) >>= λ n. Ok (record s { head = record s.head { watch_group = n } }))
     else if bytes_eq (word_name word) (codes "bucket_id") then Ok s
-    else if begins_actions (word_name word) then first_action s (word_value word)
+    else if names_actions (word_name word) then first_action s (word_value word)
     else with_bucket_action s word
 
 -- a word that is refused changes nothing else

@@ -77,7 +77,7 @@ fn add_protocol_words(
     while !rest.is_empty() {
         let (word, after) = cut_word(rest);
         rest = after;
-        if begins_actions(name_of(word)) {
+        if begins_actions(word) {
             return Ok(());
         }
         match add_protocol_word(alloc, partial, word) {

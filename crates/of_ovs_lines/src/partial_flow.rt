@@ -162,10 +162,10 @@ fn is_counter(name: &[u8]) -> bool
 }
 
 /// Whether the words after it are actions.
-pub fn begins_actions(name: &[u8]) -> bool
-    ensures { result ≡ begins_actions_so name.now }
+pub fn begins_actions(word: &[u8]) -> bool
+    ensures { result ≡ begins_actions_so word.now }
 {
-    is(name, b"actions") || is(name, b"action")
+    word.starts_with(b"actions=") || word.starts_with(b"action=")
 }
 
 impl PartialFlow {
@@ -406,7 +406,7 @@ impl PartialFlow {
     {
         if self.in_actions {
             self.add_action_word(alloc, word)
-        } else if begins_actions(name_of(word)) {
+        } else if begins_actions(word) {
             self.begin_actions(alloc, value_of(word))
         } else {
             self.count(alloc, word)?;

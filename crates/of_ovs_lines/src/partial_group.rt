@@ -1,13 +1,12 @@
 //! The meaning of the words of a line for a group.
 ghost use Rattle.std.specs.Prelude.{◌≡◌, ◌++◌, ◌∷◌, IfOk, IfErr, OnOk, Ok, Err, map, false, [], ◌<◌, ◌^◌};
 ghost use Rattle.std.specs.List.{AllByRecursion, list_all};
-ghost use Rattle.of_ovs_lines.specs.PartialGroups.{with_new_bucket, bucket_fits as bucket_fits_so, closed_buckets, first_action, finished_group as group_in, group_or_refused, is_other_command as is_other_command_name, kind_in as kind_of, no_group, with_bucket_word as bucket_with_word, with_first_word, with_group_head, with_group_word, with_bucket_action, with_word_of_bucket};
+ghost use Rattle.of_ovs_lines.specs.PartialGroups.{with_new_bucket, bucket_fits as bucket_fits_so, closed_buckets, first_action, finished_group as group_in, group_or_refused, is_other_command as is_other_command_name, kind_in as kind_of, names_actions as names_actions_so, no_group, with_bucket_word as bucket_with_word, with_first_word, with_group_head, with_group_word, with_bucket_action, with_word_of_bucket};
 ghost use Rattle.of_ovs_lines.specs.PartialGroupViews.{view_partial_group};
 ghost use Rattle.of_text.specs.{Groups.group_rows, Rows.Fits, Views.view_bucket, Views.view_group};
 ghost use Rattle.of_ovs_words.specs.Stops.{IfRefused, Stops};
 
 use crate::finish::{actions_fit, take_actions};
-use crate::partial_flow::begins_actions;
 use crate::word_fault::WordFault;
 use of_actions::Action;
 use of_groups::GroupKind;
@@ -50,6 +49,12 @@ pub fn is_other_command(name: &[u8]) -> bool
         || is(name, b"insert_buckets")
         || is(name, b"remove_bucket")
         || is(name, b"remove_buckets")
+}
+
+fn names_actions(name: &[u8]) -> bool
+    ensures { result ≡ names_actions_so name.now }
+{
+    is(name, b"actions") || is(name, b"action")
 }
 
 fn kind_in(value: &[u8]) -> Result<GroupKind, Why>
@@ -181,7 +186,7 @@ impl PartialGroup {
             Ok(())
         } else if is(name, b"bucket_id") {
             Ok(())
-        } else if begins_actions(name) {
+        } else if names_actions(name) {
             self.add_first_action(value_of(word))
         } else {
             self.add_action(word)

@@ -1,5 +1,5 @@
 -- WHAT A WORD SAYS AS AN ACTION (ovs-actions(7)), beside the settings of the flow's match.
-use Rattle.std.specs.Prelude.{ℕ, ◌+◌, ◌-◌, ◌^◌, ◌==◌, ◌&&◌, ◌||◌, nat_le, min, not, Bool, true, false, List, [], ◌∷◌, ◌++◌, codes, length, drop, Option, Some, None, Result, Ok, Err, if◌then◌else◌}
+use Rattle.std.specs.Prelude.{ℕ, ◌+◌, ◌-◌, ◌^◌, ◌==◌, ◌&&◌, ◌||◌, nat_le, min, not, Bool, true, false, List, [], ◌∷◌, ◌++◌, codes, length, Option, Some, None, Result, Ok, Err, if◌then◌else◌}
 use Rattle.std.specs.{Option.option_map_or, List.fold, Str.bytes_eq}
 use Rattle.of_layers.specs.{declared.field.Field.Field, declared.field.Field.TheVariants.VlanVid, Reading.is_tag_type}
 use Rattle.of_oxm.specs.declared.match_field.MatchField.{MatchField}
@@ -59,9 +59,13 @@ abbrev pub set_named : List MatchField → List ℕ → Option FieldWord → Res
 set_named settings value None = Err whys.Unknown
 set_named settings value (Some word) = set_field_by settings word.target word.form value
 
--- VALUE->FIELD
+-- VALUE->FIELD: the name of the field behind the minus sign
+abbrev pub arrow_target : List ℕ → List ℕ
+arrow_target [] = []
+arrow_target (b ∷ name) = if b == 62 then name else []
+
 abbrev pub set_field_in : List MatchField → List ℕ → Result Action Why
-set_field_in settings value = set_named settings (before 45 value) (field_word_named (drop 1 (behind 45 value)))
+set_field_in settings value = set_named settings (before 45 value) (field_word_named (arrow_target (behind 45 value)))
 
 abbrev pub ttl_in : List ℕ → Result Action Why
 ttl_in value = numbered 256 value >>= λ n. Ok (actions.SetNwTtl n)

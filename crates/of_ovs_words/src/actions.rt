@@ -1,7 +1,7 @@
 //! What a word says as an action.
 ghost use Rattle.std.specs.Prelude.{◌≡◌, ◌≤◌, ◌<◌, ◌^◌, ◌++◌, IfOk, Ok, Err, Some, None, IfErr, OnOk};
 ghost use Rattle.std.specs.List.{fold};
-ghost use Rattle.of_ovs_words.specs.Actions.{actions_in_words, with_action_in_word, with_key as with_key_of, action_in_word as action_of, action_without_value as alone_of, controller_in as controller_of, is_drop_word as drops_of, verb_action as verb_action_of, is_beside_drop as is_with_drop, is_matched as is_matched_by, length_in as length_of, new_value as new_value_of, output_at as output_of, output_in as sent_to, push_vlan_in as push_vlan_of, set_field_by as set_of, set_field_in as set_field_of, tag_first, tags as tags_of, tags_after as tags_behind, truncates as truncates_at};
+ghost use Rattle.of_ovs_words.specs.Actions.{actions_in_words, arrow_target as arrow_target_of, with_action_in_word, with_key as with_key_of, action_in_word as action_of, action_without_value as alone_of, controller_in as controller_of, is_drop_word as drops_of, verb_action as verb_action_of, is_beside_drop as is_with_drop, is_matched as is_matched_by, length_in as length_of, new_value as new_value_of, output_at as output_of, output_in as sent_to, push_vlan_in as push_vlan_of, set_field_by as set_of, set_field_in as set_field_of, tag_first, tags as tags_of, tags_after as tags_behind, truncates as truncates_at};
 ghost use Rattle.of_ovs_words.specs.{Outcomes.through_words, Words.words_from, Stops.IfRefused, Stops.Stops, declared.stop.Stop.TheVariants.NoMemory};
 ghost use Rattle.of_wire.specs.declared.limits.TheConstants.{OFPCML_NO_BUFFER};
 
@@ -106,13 +106,22 @@ fn set_by(settings: &[MatchField], target: Target, form: Form, value: &[u8]) -> 
     Ok(Action::SetField { field, value })
 }
 
+// The name of the field behind the minus sign of VALUE->FIELD.
+fn arrow_target(arrow: &[u8]) -> &[u8]
+    ensures { result.now ≡ arrow_target_of arrow.now }
+{
+    match arrow {
+        [b'>', name @ ..] => name,
+        _ => &[],
+    }
+}
+
 // VALUE->FIELD
 fn set_field_in(settings: &[MatchField], value: &[u8]) -> Result<Action, Why>
     ensures { result ≡ set_field_of settings.now value.now }
 {
     let (value, arrow) = cut(value, b'-');
-    let name = if arrow.is_empty() { arrow } else { &arrow[1..] };
-    match FieldWord::named(name) {
+    match FieldWord::named(arrow_target(arrow)) {
         Some(word) => set_by(settings, word.target, word.form, value),
         None => Err(Why::Unknown),
     }

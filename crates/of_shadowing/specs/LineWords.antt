@@ -48,6 +48,6 @@ with_plain s word = record s { plain = (s.plain ++ word) ++ codes ","; is_rarp =
 abbrev pub with_line_word : LineWords → List ℕ → LineWords
 with_line_word s word =
     if s.in_actions then with_action_passed s word
-    else if begins_actions (word_name word) then with_actions_begun s word
+    else if begins_actions word then with_actions_begun s word
     else if is_condition word || (s.is_rarp && is_arp_field (word_name word)) then with_condition s word
     else with_plain s word

@@ -109,7 +109,7 @@ impl LineWords {
     {
         if self.in_actions {
             self.add_action(alloc, word)
-        } else if begins_actions(name_of(word)) {
+        } else if begins_actions(word) {
             self.begin_actions(alloc, word)
         } else if is_condition(word) || self.is_rarp && is_arp_field(name_of(word)) {
             replace_named(alloc, &mut self.conditions, word)
