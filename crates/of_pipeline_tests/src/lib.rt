@@ -1,5 +1,5 @@
-//! Tests of the public calls on frames and matches, on the classifiers (which entry wins, how many masks were asked, which rows a cache
-//! keeps), on tables, and on a frame's way through them: each once with ample memory, and vectors from outside.
+//! Tests of the public calls on frames and matches, and on the classifiers (which entry wins, how many masks were asked, which rows a cache
+//! keeps): each once with ample memory, and vectors from outside.
 //!
 //! They are in a separate crate, since a crate that has tests is proved twice.
 #![tactic(auto)]
@@ -15,10 +15,6 @@ mod headers;
 #[cfg(test)]
 mod keys;
 #[cfg(test)]
-mod lists;
-#[cfg(test)]
-mod machine;
-#[cfg(test)]
 mod mask_groups;
 #[cfg(test)]
 mod oxm;
@@ -26,7 +22,5 @@ mod oxm;
 mod rewrite;
 #[cfg(test)]
 mod steps;
-#[cfg(test)]
-mod table;
 #[cfg(test)]
 mod two_entries;

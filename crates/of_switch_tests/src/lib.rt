@@ -1,5 +1,5 @@
-//! Tests of the public calls on a session's stream and on the switch, and of event files that are replayed: each once with ample memory,
-//! events that are done again where there was none, and reads and writes that fail in turn.
+//! Tests of the public calls on flow tables, on a frame's way through them, on a session's stream and on the switch, and of event files that are
+//! replayed: each once with ample memory, events that are done again where there was none, and reads and writes that fail in turn.
 //!
 //! They are in a separate crate, since a crate that has tests is proved twice.
 #![tactic(auto)]
@@ -13,6 +13,10 @@ mod checks;
 #[cfg(test)]
 mod events;
 #[cfg(test)]
+mod lists;
+#[cfg(test)]
+mod machine;
+#[cfg(test)]
 mod memory;
 #[cfg(test)]
 mod part;
@@ -22,3 +26,5 @@ mod replayed;
 mod session;
 #[cfg(test)]
 mod streams;
+#[cfg(test)]
+mod table;

@@ -1,8 +1,8 @@
 //! The groups and flows of a switch: as an event file that builds them, or for ovs-ofctl.
-use crate::files::{NoFile, config_of, read_file_contents};
-use crate::screen::Screen;
+use crate::files::read_file_contents;
 use of_build::build;
 use of_command_line::SwitchFile;
+use of_file_reports::{NoFile, Screen, config_of};
 use of_ovs_text::ovs_text;
 use of_replay::streams::WriterSink;
 use of_replay::{Ended, write_all};

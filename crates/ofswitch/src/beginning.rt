@@ -1,8 +1,8 @@
 //! The groups and flows with which a switch begins.
-use crate::files::{NoFile, config_of, read_file_contents};
-use crate::lookups::Lookups;
+use crate::files::read_file_contents;
 use of_command_line::{FileKind, OvsReading};
 use of_explain::push_message;
+use of_file_reports::{Lookups, NoFile, config_of};
 use of_files::{Contents, first_events};
 use of_replay::Ended;
 use of_sockets::Teller;

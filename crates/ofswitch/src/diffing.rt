@@ -1,11 +1,9 @@
 //! Differences of two switches.
-use crate::files::{FileRead, NoFile, Unread, is_without_options, read_file_contents};
-use crate::left_out::say_part;
-use crate::lookups::Lookups;
-use crate::screen::Screen;
+use crate::files::{Unread, read_file_contents};
 use of_alike::Compared;
 use of_command_line::{Diff, FileKind, OvsReading};
 use of_diff_report::{DiffForm, DiffSide, DiffVerdict, FileFlows, write_differences};
+use of_file_reports::{FileRead, Lookups, NoFile, Screen, is_without_options, say_part};
 use of_files::{Content, FileSwitch, both_ports, file_switch};
 use of_replay::Ended;
 use of_replay::streams::WriterSink;

@@ -1,6 +1,5 @@
 //! The bytes of messages and frames in words.
-use crate::screen::Screen;
-use crate::words::{say_fault, say_word};
+use of_file_reports::{Screen, say_fault, say_word};
 use of_frame_words::{NoFrame, read_frame};
 use of_hints::say_refusal;
 use of_ovs_text::{NoMessage, message_bytes};

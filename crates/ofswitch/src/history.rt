@@ -1,8 +1,7 @@
 //! Histories of frames and of flow entries.
-use crate::files::{NoFile, bytes_of};
-use crate::lookups::Lookups;
-use crate::screen::Screen;
+use crate::files::bytes_of;
 use of_command_line::{EntriesAsked, HistoryAsked, HistoryOf};
+use of_file_reports::{Lookups, NoFile, Screen};
 use of_frame_words::{frame_words, match_of};
 use of_hints::Seen;
 use of_history::{

@@ -1,9 +1,9 @@
 //! A switch that forwards the frames of a network.
 use crate::beginning::begun_switch;
 use crate::files::bytes_of;
-use crate::lookups::Lookups;
 use crate::seed::system_seed;
 use of_command_line::{Live as Asked, PortPeer};
+use of_file_reports::Lookups;
 use of_live::{Live, Peer, live};
 use of_replay::Ended;
 use of_sockets::Teller;

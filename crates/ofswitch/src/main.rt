@@ -3,46 +3,27 @@
 
 ghost use Rattle.std.specs.Prelude.{◌≡◌};
 
+mod asking;
 mod assembling;
 mod beginning;
-mod checking;
 mod diffing;
 mod encoding;
-mod faults;
 mod files;
 mod folding;
 mod history;
-mod importing;
-mod left_out;
 mod live;
-mod lookups;
-mod paths;
-mod progress;
-mod requiring;
 mod say;
-mod screen;
 mod seed;
 mod serving;
-mod tracing;
-mod words;
 
+use crate::asking::{check_asked, paths_asked, trace_asked};
 use crate::assembling::{assembled, dumped};
 use crate::beginning::events_of_tables;
-use crate::checking::{CheckVerdict, checked};
 use crate::diffing::diffed;
 use crate::encoding::{NotEncoded, encoded};
-use crate::faults::print_fault;
-use crate::files::{
-    NoFile, Opened, bytes_of, is_table, mode_of, open, read_whole, said_dpid, with_ports,
-};
+use crate::files::{Opened, bytes_of, open, read_whole, said_dpid, with_ports};
 use crate::folding::Folded;
 use crate::history::{HistoryVerdict, recounted};
-use crate::lookups::Lookups;
-use crate::paths::{NoPaths, divided};
-use crate::screen::Screen;
-use crate::tracing::{TraceVerdict, traced};
-use crate::words::say_word;
-use importing::{NotImported, imported, imported_as_json};
 use live::{are_peers, live_rows};
 use of_command_line::{
     Check, CheckOutput, Diff, FileRun, HistoryAsked, Live, NoRequest, OvsReading, PathsAsked,
@@ -50,6 +31,10 @@ use of_command_line::{
 };
 use of_diff_report::DiffVerdict;
 use of_explain::{Answering, Explaining, ExplainingJson};
+use of_file_reports::{
+    CheckVerdict, Lookups, NoFile, NoPaths, NotImported, Screen, TraceVerdict, imported,
+    imported_as_json, is_table, mode_of, print_fault, say_word,
+};
 use of_hints::{Seen, Watched, end, end_file};
 use of_paths_report::PathsVerdict;
 use of_replay::streams::{ReaderSource, WriterSink};
@@ -278,7 +263,7 @@ fn run_over<R: Read + Drop>(screen: &Screen<'_>, asked: &FileRun, reader: R) -> 
 }
 
 fn run_trace(screen: &Screen<'_>, asked: &Trace) -> ExitCode {
-    match traced(screen, asked) {
+    match trace_asked(screen, asked) {
         Ok(TraceVerdict::Traced) => ExitCode::SUCCESS,
         Ok(TraceVerdict::MissingPorts) => ExitCode::from(UNDECIDED),
         Ok(TraceVerdict::NoPort) => ExitCode::from(BAD_ARGUMENTS),
@@ -295,7 +280,7 @@ fn run_history(screen: &Screen<'_>, asked: &HistoryAsked) -> ExitCode {
 }
 
 fn run_check(screen: &Screen<'_>, asked: &Check) -> ExitCode {
-    match checked(screen, asked) {
+    match check_asked(screen, asked) {
         Ok(CheckVerdict::Nothing) => ExitCode::SUCCESS,
         Ok(CheckVerdict::Found) => ExitCode::from(FOUND),
         Ok(CheckVerdict::Undecided) => ExitCode::from(UNDECIDED),
@@ -316,7 +301,7 @@ fn run_diff(screen: &Screen<'_>, asked: &Diff) -> ExitCode {
 }
 
 fn run_paths(screen: &Screen<'_>, asked: &PathsAsked) -> ExitCode {
-    match divided(screen, asked) {
+    match paths_asked(screen, asked) {
         Ok(PathsVerdict::Complete) => ExitCode::SUCCESS,
         Ok(PathsVerdict::Undecided) => ExitCode::from(UNDECIDED),
         Err(NoPaths::File(why)) => {

@@ -1,7 +1,7 @@
 //! Messages of OpenFlow in words.
-use crate::files::{NoFile, bytes_of};
-use crate::screen::Screen;
+use crate::files::bytes_of;
 use of_explain::say_messages;
+use of_file_reports::{NoFile, Screen};
 use of_replay::streams::WriterSink;
 use of_replay::{Ended, write_all};
 use std::alloc::AllocError;

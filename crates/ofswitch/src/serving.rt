@@ -1,9 +1,9 @@
 //! A switch that serves controllers over sockets.
 use crate::beginning::begun_switch;
 use crate::files::bytes_of;
-use crate::lookups::Lookups;
 use crate::seed::system_seed;
 use of_command_line::Serve;
+use of_file_reports::Lookups;
 use of_replay::Ended;
 use of_replay::streams::WriterSink;
 use of_serve::serve_on;

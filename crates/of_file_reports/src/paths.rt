@@ -1,5 +1,5 @@
 //! Paths of the frames of a switch.
-use crate::files::{NoFile, SwitchRead, has_port, read_switch, say_missing};
+use crate::contents::{NoFile, SwitchRead, has_port, say_missing};
 use crate::left_out::say_part;
 use crate::lookups::Lookups;
 use crate::screen::Screen;
@@ -119,13 +119,14 @@ fn paths_within(
 }
 
 /// Prints which steps the frames take that the switch of a file receives, and returns whether it is known of all of them.
-pub fn divided(screen: &Screen<'_>, asked: &PathsAsked) -> Result<PathsVerdict, NoPaths> {
-    let rt = screen.rt;
-    match read_switch(rt, &asked.of, None, true) {
-        Ok(read) if has_ports(rt, asked, &read.described.switch) => {
-            paths_within(screen, asked, &read)
-        }
-        Ok(_) => Err(NoPaths::NoPort),
-        Err(why) => Err(NoPaths::File(why)),
+pub fn divided(
+    screen: &Screen<'_>,
+    asked: &PathsAsked,
+    read: &SwitchRead,
+) -> Result<PathsVerdict, NoPaths> {
+    if has_ports(screen.rt, asked, &read.described.switch) {
+        paths_within(screen, asked, read)
+    } else {
+        Err(NoPaths::NoPort)
     }
 }

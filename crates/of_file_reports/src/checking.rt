@@ -1,10 +1,8 @@
 //! Reports of `check`.
-use crate::files::{
-    FileRead, NoFile, Unread, content_read, contents_of, mode_of, refused_table, say_missing,
-};
+use crate::contents::{FileRead, NoFile, contents_of, mode_of, refused_table, say_missing};
 use crate::left_out::say_part;
 use crate::lookups::Lookups;
-use crate::requiring::{Required, decide_all, missing_on, push_required, read_required};
+use crate::requiring::{Required, decide_all, missing_on, push_required};
 use crate::screen::Screen;
 use of_command_line::{Check, CheckOutput};
 use of_files::{Content, Contents, FileTables, PortList, port_list, push_named, read_table};
@@ -23,7 +21,7 @@ use std::alloc::{AllocError, Global};
 /// What a flow text begins with that is a part of a table, as `import --skip` writes it.
 const PART: &[u8] = b"# part of a table";
 
-/// What a check found.
+/// What `check` found.
 #[derive(Clone, Copy, PartialEq, Eq)]
 pub enum CheckVerdict {
     Nothing,
@@ -220,26 +218,15 @@ fn flows_reported(
     }
 }
 
-// The requirements that are asked for.
-fn lines_asked<'a>(rt: &HostRuntime, asked: &'a Check) -> Result<Vec<Line>, Unread<'a>> {
-    let Some(path) = &asked.require else {
-        return Ok(Vec::new(rt.alloc()));
-    };
-    let path = path.as_str();
-    match read_required(rt, path) {
-        Ok(lines) => Ok(lines),
-        Err(why) => Err(Unread { path, why }),
-    }
-}
-
-// The report on the switch of a file.
-fn file_reported(
+/// Prints the report on the switch of a file whose bytes these are, and on these requirements.
+pub fn checked(
     screen: &Screen<'_>,
     asked: &Check,
+    bytes: Vec<u8>,
+    content: Content,
     lines: Vec<Line>,
 ) -> Result<CheckVerdict, NoFile> {
     let (rt, path, kind) = (screen.rt, asked.of.path.as_str(), asked.of.kind);
-    let (bytes, content) = content_read(rt, path, kind, true, &asked.of.reading)?;
     let mode = mode_of(&asked.of.reading);
     let may_have_conditions = content == Content::OvsTable && asked.require.is_none() && !mode.skip;
     if may_have_conditions && is_refused(rt.alloc(), &bytes, mode) {
@@ -249,16 +236,4 @@ fn file_reported(
     }
     let read = contents_of(rt, path, kind, None, false, mode, bytes, content)?;
     contents_reported(screen, asked, &read, lines)
-}
-
-/// Prints the report on the switch of a file, and on its requirements.
-pub fn checked<'a>(screen: &Screen<'_>, asked: &'a Check) -> Result<CheckVerdict, Unread<'a>> {
-    let lines = lines_asked(screen.rt, asked)?;
-    match file_reported(screen, asked, lines) {
-        Ok(verdict) => Ok(verdict),
-        Err(why) => Err(Unread {
-            path: asked.of.path.as_str(),
-            why,
-        }),
-    }
 }

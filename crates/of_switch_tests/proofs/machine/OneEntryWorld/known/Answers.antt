@@ -2,7 +2,7 @@ use Rattle.std.proofs.Common.{◌≡◌, ◌≢◌, ◌==◌, ℕ, Bool, true, f
 use Rattle.std.{specs.Prelude.IsTrue, proofs.lemmas.Bool.Decides.nat_tests}
 use Rattle.of_actions.specs.{declared.action.Action.TheVariants.Output, InstructionLists.are_kept, InstructionLists.are_for, Supported.is_supported, Supported.are_supported}
 use Rattle.of_table.specs.declared.flow.Flow.{Flow}
-use Rattle.of_pipeline_tests.proofs.machine.OneEntryWorld.known.Goals as goal
+use Rattle.of_switch_tests.proofs.machine.OneEntryWorld.known.Goals as goal
 
 two_served : IsTrue (are_supported false (Output 2 0 ∷ []))
 unfolding is_supported

@@ -1,11 +1,10 @@
 //! Requirements of the switch of a file.
+use crate::contents::NoFile;
 use crate::faults::requirement_fault;
-use crate::files::{NoFile, bytes_of};
 use crate::lookups::Lookups;
 use crate::screen::Screen;
-use of_check::required_port;
 use of_command_line::{Check, CheckOutput};
-use of_files::missing_ports;
+use of_files::{missing_ports, push_required_port};
 use of_hints::{Marked, Place, line_in};
 use of_paths_report::Destination;
 use of_replay::Ended;
@@ -14,6 +13,7 @@ use of_require::{
     read_requirements, requirements_as_json, requirements_as_junit, requirements_in_words, worst,
 };
 use of_switch::Switch;
+use of_values::push_each;
 use std::alloc::{AllocError, Global};
 use std::fs::File;
 use std::io::{self, Write};
@@ -38,17 +38,16 @@ fn say_refusal(rt: &HostRuntime, path: &str, bytes: &[u8], line: usize, refusal:
     }
 }
 
-/// The requirements of a file; if it has none, standard error says which line is at fault.
-pub fn read_required(rt: &HostRuntime, path: &str) -> Result<Vec<Line>, NoFile> {
-    let bytes = bytes_of(rt, path)?;
-    let NoRequirements { line, why } = match read_requirements(rt.alloc(), &bytes) {
+/// The requirements of a file with these bytes; if it has none, standard error says which line is at fault.
+pub fn required_in(rt: &HostRuntime, path: &str, bytes: &[u8]) -> Result<Vec<Line>, NoFile> {
+    let NoRequirements { line, why } = match read_requirements(rt.alloc(), bytes) {
         Ok(lines) => return Ok(lines),
         Err(refused) => refused,
     };
     match why {
         NoRequirement::NoMemory => Err(NoFile::ended(rt.alloc(), Ended::NoMemory)),
         NoRequirement::Refused(refusal) => {
-            say_refusal(rt, path, &bytes, line, &refusal);
+            say_refusal(rt, path, bytes, line, &refusal);
             let fault = requirement_fault(rt.alloc(), line, refusal);
             Err(NoFile::Faults(fault.ok()))
         }
@@ -65,11 +64,7 @@ fn push_places(ports: &mut Vec<u32>, places: &[Destination]) -> Result<(), Alloc
 }
 
 fn push_line_ports(ports: &mut Vec<u32>, line: &Line) -> Result<(), AllocError> {
-    for field in &line.requirement.within {
-        if let Some(port) = required_port(field) {
-            ports.push(port)?;
-        }
-    }
+    push_each(ports, &line.requirement.within, push_required_port)?;
     match &line.requirement.demand {
         Demand::LeavesBy(places) | Demand::LeavesOnlyBy(places) | Demand::Has { places, .. } =>
             push_places(ports, places),

@@ -1,5 +1,5 @@
 //! What is wrong with a file, as a JSON document (docs/JSON.md).
-use crate::files::NoFile;
+use crate::contents::NoFile;
 use crate::screen::Screen;
 use of_import::{ImportError, LineFaults, LineRefusal};
 use of_import_report::{help_of, reason_of};

@@ -1,11 +1,9 @@
 //! Traces of frames.
-use crate::files::{
-    NoFile, SwitchRead, bytes_of, has_port, is_without_options, read_switch, say_missing,
-};
+use crate::contents::{NoFile, SwitchRead, has_port, say_missing};
 use crate::left_out::say_part;
 use crate::lookups::Lookups;
 use crate::screen::Screen;
-use of_command_line::{Asked, FileKind, Trace};
+use of_command_line::{Asked, Trace};
 use of_files::Described;
 use of_hints::Seen;
 use of_replay::Ended;
@@ -44,14 +42,13 @@ fn output_of(asked: &Trace) -> Output {
     }
 }
 
-// The trace on the switch of a file that an option calls a flow text, which has ports 1 to 64.
-fn traced_on_text(screen: &Screen<'_>, asked: &Trace) -> Result<TraceVerdict, NoFile> {
-    let (rt, path) = (screen.rt, asked.of.path.as_str());
-    if !is_without_options(rt, &asked.of.reading, path) {
-        return Err(NoFile::BadOption);
-    }
-    let bytes = bytes_of(rt, path)?;
-    let (alloc, port, frame) = (rt.alloc(), asked.port, asked.frame.as_slice());
+/// Prints the trace of a frame on the switch of a flow text, which has ports 1 to 64.
+pub fn traced_on_text(
+    screen: &Screen<'_>,
+    asked: &Trace,
+    bytes: Vec<u8>,
+) -> Result<TraceVerdict, NoFile> {
+    let (alloc, port, frame) = (screen.rt.alloc(), asked.port, asked.frame.as_slice());
     let mut reader = ReaderSource::new(bytes.as_slice());
     let mut writer = WriterSink::new(screen.report());
     let output = output_of(asked);
@@ -64,11 +61,14 @@ fn traced_on_text(screen: &Screen<'_>, asked: &Trace) -> Result<TraceVerdict, No
     }
 }
 
-// The trace on the switch of a file, with the ports that it names; before a line it is the one that the lines before it leave.
-fn traced_on_switch(screen: &Screen<'_>, asked: &Trace) -> Result<TraceVerdict, NoFile> {
+/// Prints the trace of a frame on the switch of a file.
+pub fn traced_on_switch(
+    screen: &Screen<'_>,
+    asked: &Trace,
+    read: SwitchRead,
+) -> Result<TraceVerdict, NoFile> {
     let rt = screen.rt;
-    let lines = asked.at.map(|row| u64::from(row).saturating_sub(1));
-    let SwitchRead { described, left } = read_switch(rt, &asked.of, lines, false)?;
+    let SwitchRead { described, left } = read;
     let Described { switch, missing } = described;
     if !has_port(rt, &switch, "--port", asked.port) {
         return Ok(TraceVerdict::NoPort);
@@ -87,14 +87,5 @@ fn traced_on_switch(screen: &Screen<'_>, asked: &Trace) -> Result<TraceVerdict, 
         Ended::Done if some_missing => Ok(TraceVerdict::MissingPorts),
         Ended::Done => Ok(TraceVerdict::Traced),
         ended => Err(NoFile::ended(alloc, ended)),
-    }
-}
-
-/// Prints the trace of a frame on the switch of a file.
-pub fn traced(screen: &Screen<'_>, asked: &Trace) -> Result<TraceVerdict, NoFile> {
-    if asked.of.kind == FileKind::Flows && asked.of.ports.is_none() {
-        traced_on_text(screen, asked)
-    } else {
-        traced_on_switch(screen, asked)
     }
 }
