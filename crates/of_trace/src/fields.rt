@@ -180,6 +180,20 @@ fn push_change(
     end_note(out)
 }
 
+fn push_changes_of(
+    out: &mut Vec<u8>,
+    style: Style,
+    old: &FieldKey,
+    new: &FieldKey,
+    fields: &[Field],
+) -> Result<(), AllocError>
+    ensures { OnOk result (out.new.items ≡ out.old.items ++ flat_map (change_note style (value old.now) (value new.now)) fields.now) }
+{
+    push_each(out, fields, |out, field| {
+        push_change(out, style, old, new, *field)
+    })
+}
+
 // Appends those of these fields whose values differ in the second key.
 /// Appends each field whose value differs in the second key.
 pub fn push_changes(
@@ -190,9 +204,7 @@ pub fn push_changes(
 ) -> Result<(), AllocError>
     ensures { OnOk result (out.new.items ≡ out.old.items ++ change_notes style (value old.now) (value new.now)) }
 {
-    push_each(out, &Field::ALL, |out, field| {
-        push_change(out, style, old, new, *field)
-    })
+    push_changes_of(out, style, old, new, &Field::ALL)
 }
 
 // A TTL as a wider number.

@@ -1,5 +1,6 @@
 //! Traces in words.
 ghost use Rattle.std.specs.Prelude.{◌≡◌, ◌++◌, OnOk, IsTrue, Some, option_to_list};
+ghost use Rattle.std.specs.List.{flat_map};
 ghost use Rattle.std.specs.Option.{option_copied};
 ghost use Rattle.of_headers.specs.FieldMap.{value};
 ghost use Rattle.of_machine.specs.declared.data.Step.TheVariants.{Act};
@@ -409,6 +410,18 @@ fn push_leaving_line(alloc: Global, out: &mut Vec<u8>, effect: &Effect) -> Resul
     Ok(())
 }
 
+fn push_leaving_lines(
+    alloc: Global,
+    out: &mut Vec<u8>,
+    effects: &[Effect],
+) -> Result<(), AllocError>
+    ensures { OnOk result (out.new.items ≡ out.old.items ++ flat_map leaving_line effects.now) }
+{
+    push_each(out, effects, |out, effect| {
+        push_leaving_line(alloc, out, effect)
+    })
+}
+
 // Appends effects in words.
 /// Appends what leaves, in words.
 pub fn push_leaving(alloc: Global, out: &mut Vec<u8>, effects: &[Effect]) -> Result<(), AllocError>
@@ -417,7 +430,5 @@ pub fn push_leaving(alloc: Global, out: &mut Vec<u8>, effects: &[Effect]) -> Res
     if effects.is_empty() {
         out.extend_from_slice(b"nothing leaves\n")?;
     }
-    push_each(out, effects, |out, effect| {
-        push_leaving_line(alloc, out, effect)
-    })
+    push_leaving_lines(alloc, out, effects)
 }
