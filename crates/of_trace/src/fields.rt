@@ -180,6 +180,7 @@ fn push_change(
     end_note(out)
 }
 
+// Appends those of these fields whose values differ in the second key.
 fn push_changes_of(
     out: &mut Vec<u8>,
     style: Style,
@@ -194,7 +195,6 @@ fn push_changes_of(
     })
 }
 
-// Appends those of these fields whose values differ in the second key.
 /// Appends each field whose value differs in the second key.
 pub fn push_changes(
     out: &mut Vec<u8>,

@@ -410,6 +410,7 @@ fn push_leaving_line(alloc: Global, out: &mut Vec<u8>, effect: &Effect) -> Resul
     Ok(())
 }
 
+// Appends effects in words.
 fn push_leaving_lines(
     alloc: Global,
     out: &mut Vec<u8>,
@@ -422,7 +423,6 @@ fn push_leaving_lines(
     })
 }
 
-// Appends effects in words.
 /// Appends what leaves, in words.
 pub fn push_leaving(alloc: Global, out: &mut Vec<u8>, effects: &[Effect]) -> Result<(), AllocError>
     ensures { OnOk result (out.new.items ≡ out.old.items ++ leaving_text effects.now) }
