@@ -1,7 +1,7 @@
 //! What is found about two switches, in words.
 ghost use Rattle.std.specs.Prelude.{◌≡◌, ◌++◌, [], IfOk, OnOk};
 ghost use Rattle.std.specs.List.{flat_map, list_all, list_any};
-ghost use Rattle.of_diff_report.specs.DiffWords.{also_line, are_of_expired, are_same, both_switches_words, lines_of_reason, more_regions, sets_and_also_words, are_same_with, count_why, diff_summary, diff_words, difference_count, difference_head, difference_words, expired_count, expired_words, first_expired_words, further_place, is_expired_difference, is_expired_item, is_of_expired, is_same_place, limits_line, missing_line, other_ports_words, reason_lines, regions_of, same_words, sets_line, switch_words, told_words, undecided_why, undecided_words, where_words, wheres_after, with_where};
+ghost use Rattle.of_diff_report.specs.DiffWords.{also_line, are_of_expired, are_same, both_switches_words, lines_of_reason, more_regions, sets_and_also_words, are_same_with, count_why, diff_summary, diff_words, difference_count, difference_head, difference_words, expired_count, expired_words, first_expired_words, further_place, is_expired_difference, is_expired_item, is_of_expired, is_same_place, limits_line, missing_line, missing_lines, other_ports_words, reason_lines, regions_of, same_words, sets_line, switch_words, told_words, undecided_why, undecided_words, where_words, wheres_after, with_where};
 
 use crate::hits::{DiffSide, FileFlows, MarkedHit, push_hit_lines};
 use crate::region::push_region_line;
@@ -78,6 +78,12 @@ fn push_missing(out: &mut Vec<u8>, port: &u32) -> Result<(), AllocError>
     ensures { OnOk result (out.new.items ≡ out.old.items ++ missing_line port.now) }
 {
     put(out, &MISSING, &[Number(u128::from(*port))])
+}
+
+fn push_all_missing(out: &mut Vec<u8>, missing: &[u32]) -> Result<(), AllocError>
+    ensures { OnOk result (out.new.items ≡ out.old.items ++ missing_lines missing.now) }
+{
+    push_each(out, missing, push_missing)
 }
 
 // Appends a line about the miss_send_len, if they differ.
@@ -181,6 +187,12 @@ fn push_place(out: &mut Vec<u8>, at: &Where) -> Result<(), AllocError>
     }
 }
 
+fn push_places(out: &mut Vec<u8>, places: &[Where]) -> Result<(), AllocError>
+    ensures { OnOk result (out.new.items ≡ out.old.items ++ flat_map further_place places.now) }
+{
+    push_each(out, places, push_place)
+}
+
 // Appends where further differences of the same changed entries are, if there are such.
 #[tactic(auto, unfolding(crate::specs::DiffWords::also_line))]
 fn push_also(alloc: Global, out: &mut Vec<u8>, also: &[&Difference]) -> Result<(), AllocError>
@@ -192,7 +204,7 @@ fn push_also(alloc: Global, out: &mut Vec<u8>, also: &[&Difference]) -> Result<(
     let places = places_of(alloc, also)?;
     out.extend_from_slice(&ALSO)?;
     push_difference_count(out, also.len())?;
-    push_each(out, &places, push_place)?;
+    push_places(out, &places)?;
     out.push(b'\n')?;
     Ok(())
 }
@@ -524,7 +536,7 @@ pub fn differences_in_words<L: Lookup>(
 {
     let mut out = Vec::new(alloc);
     let expired = count_expired(told);
-    push_each(&mut out, of.missing, push_missing)?;
+    push_all_missing(&mut out, of.missing)?;
     push_limits(&mut out, of.limits)?;
     push_differences(alloc, &mut out, first, second, expired == told.len(), told)?;
     if expired < told.len() {
@@ -540,7 +552,7 @@ pub fn other_ports_in_words(alloc: Global, missing: &[u32]) -> Result<Vec<u8>, A
     ensures { IfOk result (λ text. text.items ≡ other_ports_words missing.now) }
 {
     let mut out = Vec::new(alloc);
-    push_each(&mut out, missing, push_missing)?;
+    push_all_missing(&mut out, missing)?;
     out.extend_from_slice(&OTHER_PORTS)?;
     Ok(out)
 }

@@ -1,5 +1,6 @@
 //! Messages in words.
 ghost use Rattle.std.specs.{Prelude.◌≡◌, Prelude.◌++◌, Prelude.OnOk};
+ghost use Rattle.std.specs.List.{flat_map};
 ghost use Rattle.of_oxm.specs.MatchReading.{match_of};
 ghost use Rattle.of_explain.specs.Messages.{and_code, and_match, error_fields, fields_of_message, spaced_field, message_words, multipart_fields, multipart_reply_fields, packet_in_and_match, type_and_fields};
 ghost use Rattle.of_explain.specs.Fields.{big_number_at as a_number_at};
@@ -66,12 +67,18 @@ fn push_spaced_field(out: &mut Vec<u8>, e: &MatchField) -> Result<(), AllocError
     push_field_words(out, e)
 }
 
+fn push_spaced_fields(out: &mut Vec<u8>, fields: &[MatchField]) -> Result<(), AllocError>
+    ensures { OnOk result (out.new.items ≡ out.old.items ++ flat_map spaced_field fields.now) }
+{
+    push_each(out, fields, push_spaced_field)
+}
+
 // Appends the fields of the match at the front of these bytes.
 fn push_match(alloc: Global, out: &mut Vec<u8>, bytes: &[u8]) -> Result<(), AllocError>
     ensures { OnOk result (out.new.items ≡ out.old.items ++ and_match (match_of bytes.now)) }
 {
     match read_match(alloc, bytes) {
-        Ok((found, _)) => push_each(out, found.fields(), push_spaced_field),
+        Ok((found, _)) => push_spaced_fields(out, found.fields()),
         Err(ReadError::Refused(_)) => Ok(()),
         Err(ReadError::Memory) => Err(AllocError),
     }
