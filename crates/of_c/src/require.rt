@@ -54,7 +54,9 @@ fn push_place(ports: &mut Vec<u32>, place: &Destination) -> Result<(), AllocErro
 fn push_within(ports: &mut Vec<u32>, within: &[MatchField]) -> Result<(), AllocError>
     ensures { OnOk result (ports.new.items ≡ ports.old.items ++ flat_map named_by_field within.now) }
 {
-    push_each(ports, within, push_required_port)
+    push_each(ports, within, |ports, field| {
+        push_required_port(ports, field)
+    })
 }
 
 fn push_line(ports: &mut Vec<u32>, line: &Line) -> Result<(), AllocError>

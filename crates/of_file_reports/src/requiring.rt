@@ -64,7 +64,9 @@ fn push_places(ports: &mut Vec<u32>, places: &[Destination]) -> Result<(), Alloc
 }
 
 fn push_line_ports(ports: &mut Vec<u32>, line: &Line) -> Result<(), AllocError> {
-    push_each(ports, &line.requirement.within, push_required_port)?;
+    push_each(ports, &line.requirement.within, |ports, field| {
+        push_required_port(ports, field)
+    })?;
     match &line.requirement.demand {
         Demand::LeavesBy(places) | Demand::LeavesOnlyBy(places) | Demand::Has { places, .. } =>
             push_places(ports, places),
